@@ -1,0 +1,4 @@
+pub mod Membership
+pub mod Inclusion
+pub mod Masks
+pub mod Solve
