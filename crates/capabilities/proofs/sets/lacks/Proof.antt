@@ -1,10 +1,10 @@
--- `capabilities::lacks` meets its contract. Assumes nothing.
+-- `capabilities::sets::lacks` meets its contract. Assumes nothing.
 use mathlib.Core.Path.{ap}
 use mathlib.Core.Bool.{not}
 use borrow.Author.Needs.{needs}
 use Rattle.capabilities.specs.Sets.{lacks}
-use Rattle.capabilities.proofs.lacks.Statement.{statement}
-use Rattle.capabilities.proofs.lacks.Tie as tie
+use Rattle.capabilities.proofs.sets.lacks.Statement.{statement}
+use Rattle.capabilities.proofs.sets.lacks.Tie as tie
 
 has-requires : tie.Need-has-requires
 has-requires c κs = search needs

@@ -1,10 +1,10 @@
--- `capabilities::single` meets its contract. Assumes nothing.
+-- `capabilities::sets::single` meets its contract. Assumes nothing.
 use borrow.Author.Needs.{needs}
 use borrow.Author.Tests.{le-ltb}
 use Rattle.capabilities.specs.Sets.{single}
 use Rattle.capabilities.proofs.Masks.{single-code}
-use Rattle.capabilities.proofs.single.Statement.{statement}
-use Rattle.capabilities.proofs.single.Tie as tie
+use Rattle.capabilities.proofs.sets.single.Statement.{statement}
+use Rattle.capabilities.proofs.sets.single.Tie as tie
 
 shl-result : tie.Need-shl-result
 shl-result c = search needs

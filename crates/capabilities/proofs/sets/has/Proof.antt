@@ -1,10 +1,10 @@
--- `capabilities::has` meets its contract. Assumes nothing.
+-- `capabilities::sets::has` meets its contract. Assumes nothing.
 use mathlib.Core.Path.{sym}
 use borrow.Author.Needs.{needs}
 use Rattle.capabilities.proofs.Masks.{has-code}
 use Rattle.capabilities.proofs.Membership.{has-above}
-use Rattle.capabilities.proofs.has.Statement.{statement}
-use Rattle.capabilities.proofs.has.Tie as tie
+use Rattle.capabilities.proofs.sets.has.Statement.{statement}
+use Rattle.capabilities.proofs.sets.has.Tie as tie
 
 shr-result : tie.Need-shr-result
 shr-result c = search needs

@@ -1,7 +1,7 @@
--- `capabilities::difference` meets its contract. Assumes nothing.
+-- `capabilities::sets::difference` meets its contract. Assumes nothing.
 use Rattle.capabilities.proofs.Masks.{minus-code}
-use Rattle.capabilities.proofs.difference.Statement.{statement}
-use Rattle.capabilities.proofs.difference.Tie as tie
+use Rattle.capabilities.proofs.sets.difference.Statement.{statement}
+use Rattle.capabilities.proofs.sets.difference.Tie as tie
 
 returns : tie.Need-returns
 returns c = minus-code 64 (c .args .a) (c .args .b) (c .fits .a .fits) (c .fits .b .fits)

@@ -1,0 +1,4 @@
+pub mod Words
+pub mod Reader
+pub mod Writer
+pub mod RoundTrip

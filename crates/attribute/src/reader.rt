@@ -1,0 +1,187 @@
+// Reading an attribute of version 1 or 2 from bytes of any length and content.
+use crate::FileCapabilities;
+use crate::Reading;
+use capabilities::sets;
+ghost use mathlib.Core.Path.{_≡_};
+ghost use Prim.Native.Nat.{_≤_, _<_};
+ghost use lib.ListN.{length, getD};
+ghost use Rattle.attribute.specs.Words.{byteAt, setOf, wordAt};
+ghost use Rattle.attribute.specs.Reader.{effectiveBit, fileOf, lengthOf, lengthOfAnotherRevision, noneAttached, otherBits, otherLength, otherRevision, reading, readingCode, revision, version1, version2};
+
+// The lengths of an attribute, by its version.
+const XATTR_CAPS_SZ_1: usize = 12;
+
+const XATTR_CAPS_SZ_2: usize = 20;
+
+// The first word's top byte is the revision, its lowest bit the effective bit.
+const REVISION_UNIT: u64 = 0x0100_0000;
+
+// Where an attribute's words are.
+const FIRST_WORD: usize = 0;
+
+const PERMITTED_LOW: usize = 4;
+
+const INHERITABLE_LOW: usize = 8;
+
+const PERMITTED_HIGH: usize = 12;
+
+const INHERITABLE_HIGH: usize = 16;
+
+// The file's capabilities that bytes stand for, or that they are unreadable. No bytes mean that no attribute is attached.
+pub fn read(bytes: &[u8]) -> Reading
+    ensures { λ r. ⌜ r ≡ reading (now (bytes .entry)) ⌝ }
+{
+    if bytes.len() == 0 {
+        return Reading::File(none_attached());
+    }
+    if has_other_length(bytes) {
+        return Reading::Unreadable;
+    }
+    if has_other_revision(bytes) {
+        return Reading::Unreadable;
+    }
+    if has_length_of_another_revision(bytes) {
+        return Reading::Unreadable;
+    }
+    if has_other_bits(bytes) {
+        return Reading::Unreadable;
+    }
+    let file = file_of(bytes);
+    if sets::outside(file.permitted | file.inheritable, sets::FULL) {
+        return Reading::Unreadable;
+    }
+    Reading::File(file)
+}
+
+// The number that a reading answers: 0, or 60 where it is unreadable.
+pub fn code(answer: Reading) -> u64
+    ensures { λ r. ⌜ r ≡ readingCode answer ⌝ }
+{
+    match answer {
+        Reading::File(_) => 0,
+        Reading::Unreadable => 60,
+    }
+}
+
+fn none_attached() -> FileCapabilities
+    ensures { λ r. ⌜ r ≡ noneAttached ⌝ }
+{
+    FileCapabilities {
+        attached: false,
+        permitted: 0,
+        inheritable: 0,
+        effective: false,
+    }
+}
+
+fn revision(bytes: &[u8]) -> u64
+    ensures { λ r. ⌜ r ≡ revision (now (bytes .entry)) ⌝ }
+{
+    word(bytes, FIRST_WORD) / REVISION_UNIT
+}
+
+fn effective_bit(bytes: &[u8]) -> bool
+    ensures { λ r. ⌜ r ≡ effectiveBit (now (bytes .entry)) ⌝ }
+{
+    word(bytes, FIRST_WORD) % 2 == 1
+}
+
+fn has_other_length(bytes: &[u8]) -> bool
+    ensures { λ r. ⌜ r ≡ otherLength (now (bytes .entry)) ⌝ }
+{
+    let length = bytes.len();
+    (length != XATTR_CAPS_SZ_1) & (length != XATTR_CAPS_SZ_2)
+}
+
+fn has_other_revision(bytes: &[u8]) -> bool
+    ensures { λ r. ⌜ r ≡ otherRevision (now (bytes .entry)) ⌝ }
+{
+    let version = revision(bytes);
+    (version != 1) & (version != 2)
+}
+
+fn has_length_of_another_revision(bytes: &[u8]) -> bool
+    ensures { λ r. ⌜ r ≡ lengthOfAnotherRevision (now (bytes .entry)) ⌝ }
+{
+    bytes.len() != length_of(revision(bytes))
+}
+
+fn length_of(version: u64) -> usize
+    ensures { λ r. ⌜ r ≡ lengthOf version ⌝ }
+{
+    if version == 1 {
+        return XATTR_CAPS_SZ_1;
+    }
+    XATTR_CAPS_SZ_2
+}
+
+fn has_other_bits(bytes: &[u8]) -> bool
+    ensures { λ r. ⌜ r ≡ otherBits (now (bytes .entry)) ⌝ }
+{
+    word(bytes, FIRST_WORD) % REVISION_UNIT / 2 != 0
+}
+
+fn file_of(bytes: &[u8]) -> FileCapabilities
+    ensures { λ r. ⌜ r ≡ fileOf (now (bytes .entry)) ⌝ }
+{
+    if revision(bytes) == 1 {
+        return version_1(bytes);
+    }
+    version_2(bytes)
+}
+
+fn version_1(bytes: &[u8]) -> FileCapabilities
+    ensures { λ r. ⌜ r ≡ version1 (now (bytes .entry)) ⌝ }
+{
+    FileCapabilities {
+        attached: true,
+        permitted: word(bytes, PERMITTED_LOW),
+        inheritable: word(bytes, INHERITABLE_LOW),
+        effective: effective_bit(bytes),
+    }
+}
+
+fn version_2(bytes: &[u8]) -> FileCapabilities
+    ensures { λ r. ⌜ r ≡ version2 (now (bytes .entry)) ⌝ }
+{
+    FileCapabilities {
+        attached: true,
+        permitted: set_of(word(bytes, PERMITTED_LOW), word(bytes, PERMITTED_HIGH)),
+        inheritable: set_of(word(bytes, INHERITABLE_LOW), word(bytes, INHERITABLE_HIGH)),
+        effective: effective_bit(bytes),
+    }
+}
+
+// A set from its low and its high word.
+fn set_of(low: u64, high: u64) -> u64
+    requires { ⌜ (low < 0x100000000) × (high < 0x100000000) ⌝ }
+    ensures { λ r. ⌜ r ≡ setOf low high ⌝ }
+{
+    low + 0x1_0000_0000 * high
+}
+
+// The little-endian word that starts at `at`. A byte past the end counts as 0.
+fn word(bytes: &[u8], at: usize) -> u64
+    requires { ⌜ at ≤ 16 ⌝ }
+    ensures { λ r. ⌜ (r ≡ wordAt (now (bytes .entry)) at) × (r < 0x100000000) ⌝ }
+{
+    byte(bytes, at)
+        + 0x100 * byte(bytes, at + 1)
+        + 0x1_0000 * byte(bytes, at + 2)
+        + 0x100_0000 * byte(bytes, at + 3)
+}
+
+fn byte(bytes: &[u8], at: usize) -> u64
+    ensures { λ r. ⌜ (r ≡ byteAt (now (bytes .entry)) at) × (r < 256) ⌝ }
+{
+    if at < bytes.len() {
+        return wide(bytes[at]);
+    }
+    0
+}
+
+fn wide(x: u8) -> u64
+    ensures { λ r. ⌜ (r ≡ x) × (r < 256) ⌝ }
+{
+    x as u64
+}

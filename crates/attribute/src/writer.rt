@@ -1,0 +1,72 @@
+// Writing an attribute of version 2 into a buffer that the caller lends.
+use crate::Written;
+use capabilities::sets;
+ghost use mathlib.Core.Path.{_≡_};
+ghost use Prim.Native.Nat.{_+_, _≤_, _<_};
+ghost use lib.ListN.{length};
+ghost use lib.Seq.{sets};
+ghost use Rattle.attribute.specs.Words.{wordBytes};
+ghost use Rattle.attribute.specs.Writer.{bufferAfter, firstWord, versionTwo, written};
+
+// The first word of version 2 with the effective bit off, and that bit.
+const VFS_CAP_REVISION_2: u64 = 0x0200_0000;
+
+const VFS_CAP_FLAGS_EFFECTIVE: u64 = 1;
+
+// The length of a version 2 attribute.
+const XATTR_CAPS_SZ_2: usize = 20;
+
+// Writes a version 2 attribute at the start of buffer: 22 where a set has a bit above 40, then 28 where buffer
+// is shorter than 20 bytes, and in both cases nothing is written; else 20 bytes, and those past them stay.
+pub fn write(permitted: u64, inheritable: u64, effective: bool, buffer: &mut [u8]) -> Written
+    ensures { λ r. ⌜ (r ≡ written permitted inheritable (length (now (buffer .entry)))) × (now (buffer .exit) ≡ bufferAfter permitted inheritable effective (now (buffer .entry))) ⌝ }
+{
+    if sets::outside(permitted | inheritable, sets::FULL) {
+        return Written {
+            code: 22,
+            length: 0,
+        };
+    }
+    if buffer.len() < XATTR_CAPS_SZ_2 {
+        return Written {
+            code: 28,
+            length: 0,
+        };
+    }
+    put_words(permitted, inheritable, effective, buffer);
+    Written {
+        code: 0,
+        length: XATTR_CAPS_SZ_2,
+    }
+}
+
+fn put_words(permitted: u64, inheritable: u64, effective: bool, buffer: &mut [u8])
+    requires { ⌜ 20 ≤ length (now buffer) ⌝ }
+    ensures { λ _. ⌜ now (buffer .exit) ≡ sets (now (buffer .entry)) 0 (versionTwo permitted inheritable effective) ⌝ }
+{
+    put_word(first_word(effective), buffer, 0);
+    put_word(permitted % 0x1_0000_0000, buffer, 4);
+    put_word(inheritable % 0x1_0000_0000, buffer, 8);
+    put_word(permitted / 0x1_0000_0000, buffer, 12);
+    put_word(inheritable / 0x1_0000_0000, buffer, 16);
+}
+
+fn first_word(effective: bool) -> u64
+    ensures { λ r. ⌜ r ≡ firstWord effective ⌝ }
+{
+    if effective {
+        return VFS_CAP_REVISION_2 + VFS_CAP_FLAGS_EFFECTIVE;
+    }
+    VFS_CAP_REVISION_2
+}
+
+// Puts the four bytes of a word at `at`, lowest first.
+fn put_word(value: u64, buffer: &mut [u8], at: usize)
+    requires { ⌜ at + 4 ≤ length (now buffer) ⌝ }
+    ensures { λ _. ⌜ now (buffer .exit) ≡ sets (now (buffer .entry)) at (wordBytes value) ⌝ }
+{
+    buffer[at] = (value % 0x100) as u8;
+    buffer[at + 1] = (value / 0x100 % 0x100) as u8;
+    buffer[at + 2] = (value / 0x1_0000 % 0x100) as u8;
+    buffer[at + 3] = (value / 0x100_0000 % 0x100) as u8;
+}
