@@ -1,7 +1,7 @@
 -- What an attribute's bytes stand for ("Attribute bytes"): the first word, the two layouts, what is unreadable, the answer.
 -- Assumes nothing.
 use Prim.Native.Nat.{ℕ, _/_, _%_}
-use mathlib.Core.Bool.{Bool, true, false, cond, not, _&&_}
+use mathlib.Core.Bool.{Bool, true, false, cond, not, _&&_, _||_}
 use mathlib.Core.List.{List}
 use lib.Dec.{eqb}
 use lib.ListN.{length}
@@ -65,16 +65,18 @@ otherBits s = not (eqb (wordAt s 0 % 0x1000000 / 2) 0)
 abbrev pub bitsAbove40 : ℕ → ℕ → Bool
 bitsAbove40 p i = outside (union p i) full
 
+-- what is unreadable, where there are bytes at all
+unfoldable pub unreadable : List ℕ → Bool
+unreadable s =
+    otherLength s
+    || otherRevision s
+    || lengthOfAnotherRevision s
+    || otherBits s
+    || bitsAbove40 (fileOf s .permitted) (fileOf s .inheritable)
+
 -- the answer for any bytes
 unfoldable pub reading : List ℕ → Reading
-reading s =
-    cond (eqb (length s) 0) (File noneAttached)
-    (cond (otherLength s) Unreadable
-    (cond (otherRevision s) Unreadable
-    (cond (lengthOfAnotherRevision s) Unreadable
-    (cond (otherBits s) Unreadable
-    (cond (bitsAbove40 (fileOf s .permitted) (fileOf s .inheritable)) Unreadable
-    (File (fileOf s)))))))
+reading s = cond (eqb (length s) 0) (File noneAttached) (cond (unreadable s) Unreadable (File (fileOf s)))
 
 -- "What comes back": the number of each case
 abbrev pub readingCode : Reading → ℕ

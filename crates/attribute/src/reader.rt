@@ -6,7 +6,7 @@ ghost use mathlib.Core.Path.{_≡_};
 ghost use Prim.Native.Nat.{_≤_, _<_};
 ghost use lib.ListN.{length, getD};
 ghost use Rattle.attribute.specs.Words.{byteAt, setOf, wordAt};
-ghost use Rattle.attribute.specs.Reader.{effectiveBit, fileOf, lengthOf, lengthOfAnotherRevision, noneAttached, otherBits, otherLength, otherRevision, reading, readingCode, revision, version1, version2};
+ghost use Rattle.attribute.specs.Reader.{bitsAbove40, effectiveBit, fileOf, lengthOf, lengthOfAnotherRevision, noneAttached, otherBits, otherLength, otherRevision, reading, readingCode, revision, unreadable, version1, version2};
 
 // The lengths of an attribute, by its version.
 const XATTR_CAPS_SZ_1: usize = 12;
@@ -34,23 +34,10 @@ pub fn read(bytes: &[u8]) -> Reading
     if bytes.len() == 0 {
         return Reading::File(none_attached());
     }
-    if has_other_length(bytes) {
+    if is_unreadable(bytes) {
         return Reading::Unreadable;
     }
-    if has_other_revision(bytes) {
-        return Reading::Unreadable;
-    }
-    if has_length_of_another_revision(bytes) {
-        return Reading::Unreadable;
-    }
-    if has_other_bits(bytes) {
-        return Reading::Unreadable;
-    }
-    let file = file_of(bytes);
-    if sets::outside(file.permitted | file.inheritable, sets::FULL) {
-        return Reading::Unreadable;
-    }
-    Reading::File(file)
+    Reading::File(file_of(bytes))
 }
 
 // The number that a reading answers: 0, or 60 where it is unreadable.
@@ -72,6 +59,17 @@ fn none_attached() -> FileCapabilities
         inheritable: 0,
         effective: false,
     }
+}
+
+fn is_unreadable(bytes: &[u8]) -> bool
+    ensures { λ r. ⌜ r ≡ unreadable (now (bytes .entry)) ⌝ }
+{
+    let file = file_of(bytes);
+    has_other_length(bytes)
+        | has_other_revision(bytes)
+        | has_length_of_another_revision(bytes)
+        | has_other_bits(bytes)
+        | has_bits_above_40(file.permitted, file.inheritable)
 }
 
 fn revision(bytes: &[u8]) -> u64
@@ -119,6 +117,12 @@ fn has_other_bits(bytes: &[u8]) -> bool
     ensures { λ r. ⌜ r ≡ otherBits (now (bytes .entry)) ⌝ }
 {
     word(bytes, FIRST_WORD) % REVISION_UNIT / 2 != 0
+}
+
+pub(crate) fn has_bits_above_40(permitted: u64, inheritable: u64) -> bool
+    ensures { λ r. ⌜ r ≡ bitsAbove40 permitted inheritable ⌝ }
+{
+    sets::outside(permitted | inheritable, sets::FULL)
 }
 
 fn file_of(bytes: &[u8]) -> FileCapabilities

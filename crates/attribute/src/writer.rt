@@ -1,6 +1,6 @@
 // Writing an attribute of version 2 into a buffer that the caller lends.
 use crate::Written;
-use capabilities::sets;
+use crate::reader::has_bits_above_40;
 ghost use mathlib.Core.Path.{_≡_};
 ghost use Prim.Native.Nat.{_+_, _≤_, _<_};
 ghost use lib.ListN.{length};
@@ -21,7 +21,7 @@ const XATTR_CAPS_SZ_2: usize = 20;
 pub fn write(permitted: u64, inheritable: u64, effective: bool, buffer: &mut [u8]) -> Written
     ensures { λ r. ⌜ (r ≡ written permitted inheritable (length (now (buffer .entry)))) × (now (buffer .exit) ≡ bufferAfter permitted inheritable effective (now (buffer .entry))) ⌝ }
 {
-    if sets::outside(permitted | inheritable, sets::FULL) {
+    if has_bits_above_40(permitted, inheritable) {
         return Written {
             code: 22,
             length: 0,

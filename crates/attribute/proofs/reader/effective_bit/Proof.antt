@@ -1,4 +1,4 @@
-use Rattle.attribute.specs.Reader.{effectiveBit}
+-- `attribute::reader::effective_bit` meets its contract. Assumes nothing.
 use borrow.Author.Needs.{needs}
 use Rattle.attribute.proofs.reader.effective_bit.Statement.{statement}
 use Rattle.attribute.proofs.reader.effective_bit.Tie as tie
@@ -7,7 +7,6 @@ word-requires : tie.Need-word-requires
 word-requires c κs = search needs
 
 returns : tie.Need-returns
-unfolding effectiveBit
 returns c = simp (← (c .word .ensures .0))
 
 pub effective-bit-spec : {M : Type 1} → statement M

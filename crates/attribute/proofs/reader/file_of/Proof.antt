@@ -1,3 +1,4 @@
+-- `attribute::reader::file_of` meets its contract. Assumes nothing.
 use Rattle.attribute.specs.Reader.{fileOf}
 use borrow.Author.Tests.{eq-eqb, ne-eqb}
 use borrow.Author.Needs.{needs}

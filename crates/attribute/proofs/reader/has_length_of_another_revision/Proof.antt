@@ -1,4 +1,4 @@
-use Rattle.attribute.specs.Reader.{lengthOfAnotherRevision}
+-- `attribute::reader::has_length_of_another_revision` meets its contract. Assumes nothing.
 use borrow.Author.Needs.{needs}
 use Rattle.attribute.proofs.reader.has_length_of_another_revision.Statement.{statement}
 use Rattle.attribute.proofs.reader.has_length_of_another_revision.Tie as tie
@@ -10,7 +10,6 @@ length-of-requires : tie.Need-length-of-requires
 length-of-requires c κs = search needs
 
 returns : tie.Need-returns
-unfolding lengthOfAnotherRevision
 returns c =
     simp (
       ← (c .length-of .ensures),

@@ -1,3 +1,4 @@
+-- `attribute::reader::length_of` meets its contract. Assumes nothing.
 use Rattle.attribute.specs.Reader.{lengthOf}
 use borrow.Author.Tests.{eq-eqb, ne-eqb}
 use Rattle.attribute.proofs.reader.length_of.Statement.{statement}

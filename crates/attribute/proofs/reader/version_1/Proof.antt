@@ -1,3 +1,4 @@
+-- `attribute::reader::version_1` meets its contract. Assumes nothing.
 use Rattle.attribute.specs.Reader.{version1}
 use borrow.Author.Needs.{needs}
 use Rattle.attribute.proofs.reader.version_1.Statement.{statement}

@@ -1,3 +1,4 @@
+-- `attribute::reader::version_2` meets its contract. Assumes nothing.
 use Rattle.attribute.specs.Reader.{version2}
 use borrow.Author.Needs.{needs}
 use Rattle.attribute.proofs.reader.version_2.Statement.{statement}

@@ -1,3 +1,4 @@
+-- `attribute::reader::word` meets its contract. Assumes nothing.
 use Rattle.attribute.specs.Words.{wordAt}
 use native.Mathlib.Omega.{arith}
 use borrow.Author.Needs.{needs}

@@ -1,3 +1,4 @@
+-- `attribute::writer::first_word` meets its contract. Assumes nothing.
 use Rattle.attribute.specs.Writer.{firstWord}
 use borrow.Author.Needs.{needs}
 use Rattle.attribute.proofs.writer.first_word.Statement.{statement}

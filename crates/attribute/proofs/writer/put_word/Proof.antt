@@ -1,3 +1,4 @@
+-- `attribute::writer::put_word` meets its contract. Assumes nothing.
 use native.Mathlib.Omega.{arith}
 use lib.ListN.{length-set}
 use Rattle.attribute.specs.Words.{wordBytes}

@@ -1,3 +1,4 @@
+-- `attribute::writer::put_words` meets its contract. Assumes nothing.
 use Prim.Native.Nat.{ℕ, _/_, _%_}
 use mathlib.Core.Path.{ap, _∙_}
 use lib.Seq.{sets}
