@@ -1,0 +1,302 @@
+-- The round trip of attributes holds. Assumes nothing.
+use Prim.Native.Nat.{ℕ, zero, _+_, _*_, _/_, _%_, _≤_, _<_}
+use mathlib.Core.Path.{_≡_, refl, sym, ap, _∙_, subst}
+use mathlib.Core.Bool.{Bool, true, false, cond, not, _&&_, _||_, true≢false}
+use mathlib.Core.List.{List, [], _∷_, _++_, append-assoc}
+use native.Mathlib.Omega.{arith}
+use lib.Dec.{eqb, ltb}
+use lib.ListN.{length, take, drop, replicate, length-drop}
+use lib.Seq.{take-add, take-all, take-append-seam, drop-drop}
+use borrow.Author.Tests.{eqb-true, eqb-false, not-false, ltb-false, le-ltb}
+use Rattle.capabilities.specs.Sets.{full, union, _⊆_}
+use Rattle.capabilities.proofs.Inclusion.{not-outside, union-sub-l, union-sub-r, full-lt}
+use Rattle.attribute.specs.Words.{Bytes, byteAt, wordAt, wordBytes, setOf}
+use Rattle.attribute.specs.Reader.{bitsAbove40, fileOf, lengthOf, lengthOfAnotherRevision, noneAttached, otherBits, otherLength, otherRevision, reading, revision, unreadable, version1, version2}
+use Rattle.attribute.specs.Writer.{firstWord, versionTwo, written, writingCode, bufferAfter}
+use Rattle.attribute.specs.RoundTrip.{asVersion2, WritesAs, RoundTrip}
+use Rattle.attribute.specs.declared.FileCapabilities.{FileCapabilities}
+use Rattle.attribute.specs.declared.Reading.{Reading}
+use Rattle.attribute.specs.declared.Reading.the-variants.{File, Unreadable}
+use Rattle.attribute.proofs.Words.{word-of-bytes, word-again, word-lt}
+
+-- ---- the writer
+
+code-zero : (t u : Bool) → _≡_ {A = ℕ} (cond t 22 (cond u 28 0)) 0 → (t ≡ false) × (u ≡ false)
+code-zero true u h = absurd (eqb-false 22 0 refl h)
+code-zero false true h = absurd (eqb-false 28 0 refl h)
+code-zero false false h = (refl, refl)
+
+-- not refused, the sets are in range and there is room
+done-facts : (p i n : ℕ) → writingCode p i n ≡ 0 → (bitsAbove40 p i ≡ false) × (20 ≤ n)
+unfolding writingCode
+done-facts p i n h = let k = code-zero (bitsAbove40 p i) (ltb n 20) h in (k .0, ltb-false n 20 (k .1))
+
+done-code : (p i n : ℕ) → bitsAbove40 p i ≡ false → 20 ≤ n → writingCode p i n ≡ 0
+unfolding writingCode
+done-code p i n h k = simp (h, le-ltb n 20 k)
+
+done-buffer : (p i : ℕ) (e : Bool) (old : List ℕ) → writingCode p i (length old) ≡ 0 → bufferAfter p i e old ≡ versionTwo p i e ++ drop 20 old
+unfolding bufferAfter
+done-buffer p i e old h = simp h
+
+writes-as : (f : FileCapabilities) {s : List ℕ} → bitsAbove40 (f .permitted) (f .inheritable) ≡ false
+    → versionTwo (f .permitted) (f .inheritable) (f .effective) ≡ s → WritesAs f s
+unfolding written
+writes-as f h e = record {
+  done = λ old k. simp (done-code (f .permitted) (f .inheritable) (length old) h k);
+  leaves = λ old k.
+      done-buffer (f .permitted) (f .inheritable) (f .effective) old (done-code (f .permitted) (f .inheritable) (length old) h k)
+      ∙ ap (λ (t : List ℕ). t ++ drop 20 old) e;
+}
+
+-- ---- reading what was written
+
+first-lt : (e : Bool) → firstWord e < 0x100000000
+unfolding firstWord
+first-lt true = omega arith
+first-lt false = omega arith
+
+first-revision : (e : Bool) → firstWord e / 0x1000000 ≡ 2
+unfolding firstWord
+first-revision true = refl
+first-revision false = refl
+
+first-other-bits : (e : Bool) → firstWord e % 0x1000000 / 2 ≡ 0
+unfolding firstWord
+first-other-bits true = refl
+first-other-bits false = refl
+
+first-effective : (e : Bool) → eqb (firstWord e % 2) 1 ≡ e
+unfolding firstWord
+first-effective true = refl
+first-effective false = refl
+
+halves : (a : ℕ) → setOf (a % 0x100000000) (a / 0x100000000) ≡ a
+halves a = omega arith
+
+low-lt : (a : ℕ) → a % 0x100000000 < 0x100000000
+low-lt a = omega arith
+
+high-lt : (a : ℕ) → a ⊆ full → a / 0x100000000 < 0x100000000
+high-lt a h = let k : a < 0x20000000000 = full-lt h in omega arith
+
+-- a written attribute's words
+module _ (p i : ℕ) (e : Bool) where
+  word-0 : wordAt (versionTwo p i e) 0 ≡ firstWord e
+  unfolding wordAt versionTwo wordBytes
+  word-0 = word-of-bytes (firstWord e) (first-lt e)
+
+  word-4 : wordAt (versionTwo p i e) 4 ≡ p % 0x100000000
+  unfolding wordAt versionTwo wordBytes
+  word-4 = word-of-bytes (p % 0x100000000) (low-lt p)
+
+  word-8 : wordAt (versionTwo p i e) 8 ≡ i % 0x100000000
+  unfolding wordAt versionTwo wordBytes
+  word-8 = word-of-bytes (i % 0x100000000) (low-lt i)
+
+  word-12 : p ⊆ full → wordAt (versionTwo p i e) 12 ≡ p / 0x100000000
+  unfolding wordAt versionTwo wordBytes
+  word-12 h = word-of-bytes (p / 0x100000000) (high-lt p h)
+
+  word-16 : i ⊆ full → wordAt (versionTwo p i e) 16 ≡ i / 0x100000000
+  unfolding wordAt versionTwo wordBytes
+  word-16 h = word-of-bytes (i / 0x100000000) (high-lt i h)
+
+  written-length : length (versionTwo p i e) ≡ 20
+  unfolding versionTwo wordBytes
+  written-length = refl
+
+  read-back : bitsAbove40 p i ≡ false → reading (versionTwo p i e) ≡ File (record { attached = true; permitted = p; inheritable = i; effective = e })
+  unfolding reading unreadable fileOf version2 lengthOf
+  read-back h =
+      let k : union p i ⊆ full = not-outside (union p i) full h in
+      simp
+      (written-length, word-0, word-4, word-8, word-12 (union-sub-l p i k), word-16 (union-sub-r p i k), first-revision, first-other-bits, first-effective, halves, h)
+
+  first-twenty : (t : List ℕ) → take 20 (versionTwo p i e ++ t) ≡ versionTwo p i e
+  unfolding versionTwo wordBytes
+  first-twenty t = refl
+
+back : (p i : ℕ) (e : Bool) (old : List ℕ) → written p i (length old) .code ≡ 0
+    → reading (take 20 (bufferAfter p i e old)) ≡ File (record { attached = true; permitted = p; inheritable = i; effective = e })
+unfolding written
+back p i e old h =
+    ap (λ (t : List ℕ). reading (take 20 t)) (done-buffer p i e old h) ∙ ap reading (first-twenty p i e (drop 20 old))
+    ∙ read-back p i e (done-facts p i (length old) h .0)
+
+-- ---- what a readable attribute holds
+
+not-file : {A : Type 0} {f : FileCapabilities} → Unreadable ≡ File f → A
+not-file h = let z : _≡_ {A = ℕ} 0 1 = cc in absurd (eqb-false 0 1 refl z)
+
+inside : (t : Bool) {x : Reading} {f : FileCapabilities} → cond t Unreadable x ≡ File f → (t ≡ false) × (x ≡ File f)
+inside true h = not-file h
+inside false h = (refl, h)
+
+or-l : (x y : Bool) → x || y ≡ false → x ≡ false
+or-l true y h = h
+or-l false y h = refl
+
+or-r : (x y : Bool) → x || y ≡ false → y ≡ false
+or-r true y h = absurd (true≢false h)
+or-r false y h = h
+
+record Held (s : List ℕ) (f : FileCapabilities) : Type 0 where
+  version : otherRevision s ≡ false
+  sized : lengthOfAnotherRevision s ≡ false
+  clean : otherBits s ≡ false
+  range : bitsAbove40 (f .permitted) (f .inheritable) ≡ false
+  is : fileOf s ≡ f
+
+held : (s : List ℕ) (f : FileCapabilities) → eqb (length s) 0 ≡ false → reading s ≡ File f → Held s f
+unfolding reading unreadable
+held s f some h =
+    let read : cond (unreadable s) Unreadable (File (fileOf s)) ≡ File f = simp some at h in
+    let k = inside (unreadable s) read in
+    let same : fileOf s ≡ f = cc (k .1) in
+    let upTo3 = or-l (otherLength s || otherRevision s || lengthOfAnotherRevision s || otherBits s) (bitsAbove40 (fileOf s .permitted) (fileOf s .inheritable)) (k .0) in
+    let upTo2 = or-l (otherLength s || otherRevision s || lengthOfAnotherRevision s) (otherBits s) upTo3 in
+    let upTo1 = or-l (otherLength s || otherRevision s) (lengthOfAnotherRevision s) upTo2 in
+    record {
+      version = or-r (otherLength s) (otherRevision s) upTo1;
+      sized = or-r (otherLength s || otherRevision s) (lengthOfAnotherRevision s) upTo2;
+      clean = or-r (otherLength s || otherRevision s || lengthOfAnotherRevision s) (otherBits s) upTo3;
+      range = ap (λ (g : FileCapabilities). bitsAbove40 (g .permitted) (g .inheritable)) (sym same)
+          ∙ or-r (otherLength s || otherRevision s || lengthOfAnotherRevision s || otherBits s) (bitsAbove40 (fileOf s .permitted) (fileOf s .inheritable)) (k .0);
+      is = same;
+    }
+
+-- the revision is the one whose length it is
+revision-of-20 : (x y : Bool) → not x && not y ≡ false → not (eqb 20 (cond x 12 20)) ≡ false → (x ≡ false) × (y ≡ true)
+revision-of-20 true y h k = absurd (true≢false k)
+revision-of-20 false true h k = (refl, refl)
+revision-of-20 false false h k = absurd (true≢false h)
+
+revision-of-12 : (x : Bool) → not (eqb 12 (cond x 12 20)) ≡ false → x ≡ true
+revision-of-12 true k = refl
+revision-of-12 false k = absurd (true≢false k)
+
+-- ---- the first word again
+
+-- a first word of revision v with no other bits: the revision and the effective bit
+first-bits : (w v : ℕ) → w / 0x1000000 ≡ v → w % 0x1000000 / 2 ≡ 0 → w ≡ 0x1000000 * v + w % 2
+first-bits w v h k = omega arith
+
+bit-off : (x : ℕ) → x < 2 → eqb x 1 ≡ false → x ≡ 0
+bit-off x l h = off (eqb-false x 1 h)
+  where
+    off : (x ≡ 1 → ⊥) → x ≡ 0
+    off n = omega arith
+
+first-again : (x : ℕ) (e : Bool) → x < 2 → eqb x 1 ≡ e → firstWord e ≡ 0x2000000 + x
+unfolding firstWord
+first-again x true l h = let k : x ≡ 1 = eqb-true x 1 h in omega arith
+first-again x false l h = let k : x ≡ 0 = bit-off x l h in omega arith
+
+-- ---- writing what was read
+
+low-of : (l h : ℕ) → l < 0x100000000 → setOf l h % 0x100000000 ≡ l
+low-of l h k = omega arith
+
+high-of : (l h : ℕ) → l < 0x100000000 → setOf l h / 0x100000000 ≡ h
+high-of l h k = omega arith
+
+word-by-word : (s : List ℕ) → length s ≡ 20 → take 4 (drop 0 s) ++ take 4 (drop 4 s) ++ take 4 (drop 8 s) ++ take 4 (drop 12 s) ++ take 4 (drop 16 s) ≡ s
+word-by-word s h =
+    sym (take-add 16 4 s ∙ ap (λ (t : List ℕ). t ++ take 4 (drop 16 s))
+    (take-add 12 4 s ∙ ap (λ (t : List ℕ). t ++ take 4 (drop 12 s)) (take-add 8 4 s ∙ ap (λ (t : List ℕ). t ++ take 4 (drop 8 s)) (take-add 4 4 s))))
+    ∙ take-all 20 s (omega arith)
+
+five-again : (s : List ℕ) → Bytes s → length s ≡ 20
+    → wordBytes (wordAt s 0) ++ wordBytes (wordAt s 4) ++ wordBytes (wordAt s 8) ++ wordBytes (wordAt s 12) ++ wordBytes (wordAt s 16) ≡ s
+five-again s b h =
+    simp
+    (word-again s b 0 (omega arith), word-again s b 4 (omega arith), word-again s b 8 (omega arith), word-again s b 12 (omega arith), word-again s b 16 (omega arith))
+    (word-by-word s h)
+
+version2-again : (s : List ℕ) → Bytes s → length s ≡ 20 → revision s ≡ 2 → otherBits s ≡ false
+    → versionTwo (version2 s .permitted) (version2 s .inheritable) (version2 s .effective) ≡ s
+unfolding versionTwo version2
+version2-again s b h v o =
+    let first : wordAt s 0 ≡ 0x2000000 + wordAt s 0 % 2 = first-bits (wordAt s 0) 2 v (eqb-true _ _ (not-false _ o)) in
+    simp (
+      first-again (wordAt s 0 % 2) _ (omega arith) refl,
+      ← first,
+      low-of (wordAt s 4) (wordAt s 12) (word-lt s b 4),
+      high-of (wordAt s 4) (wordAt s 12) (word-lt s b 4),
+      low-of (wordAt s 8) (wordAt s 16) (word-lt s b 8),
+      high-of (wordAt s 8) (wordAt s 16) (word-lt s b 8),
+    )
+    (five-again s b h)
+
+again : (s : List ℕ) (f : FileCapabilities) → Bytes s → length s ≡ 20 → reading s ≡ File f → WritesAs f s
+unfolding fileOf lengthOf
+again s f b h r =
+    let k : Held s f = held s f (ap (λ (n : ℕ). eqb n 0) h) r in
+    let v = revision-of-20 (eqb (revision s) 1) (eqb (revision s) 2) (k .version) (simp h at (k .sized)) in
+    let is : version2 s ≡ f = simp (v .0) at (k .is) in
+    writes-as f (k .range)
+    (ap (λ (g : FileCapabilities). versionTwo (g .permitted) (g .inheritable) (g .effective)) (sym is)
+    ∙ version2-again s b h (eqb-true (revision s) 2 (v .1)) (k .clean))
+
+-- the first byte of a readable version 1 attribute is its effective bit
+first-byte : (s : List ℕ) → Bytes s → revision s ≡ 1 → otherBits s ≡ false → byteAt s 0 ≡ wordAt s 0 % 2
+unfolding wordAt
+first-byte s b v o =
+    let p : wordAt s 0 ≡ 0x1000000 * 1 + wordAt s 0 % 2 = first-bits (wordAt s 0) 1 v (eqb-true _ _ (not-false _ o)) in
+    let q : byteAt s 0 ≡ wordAt s 0 % 0x100 = omega (arith, b .small 0) in
+    q ∙ low (wordAt s 0) p
+  where
+    low : (w : ℕ) → w ≡ 0x1000000 * 1 + w % 2 → w % 0x100 ≡ w % 2
+    low w p = omega arith
+
+-- version 2's first word with that effective bit
+first-raised : (x : ℕ) (e : Bool) → x < 2 → eqb x 1 ≡ e → wordBytes (firstWord e) ≡ x ∷ 0 ∷ 0 ∷ 2 ∷ []
+unfolding wordBytes firstWord
+first-raised x true l h = ap (λ (y : ℕ). y ∷ 0 ∷ 0 ∷ 2 ∷ []) (sym (eqb-true x 1 h))
+first-raised x false l h = ap (λ (y : ℕ). y ∷ 0 ∷ 0 ∷ 2 ∷ []) (sym (bit-off x l h))
+
+small-low : (w : ℕ) → w < 0x100000000 → w % 0x100000000 ≡ w
+small-low w h = omega arith
+
+small-high : (w : ℕ) → w < 0x100000000 → w / 0x100000000 ≡ 0
+small-high w h = omega arith
+
+two-words : (s : List ℕ) → length s ≡ 12 → take 4 (drop 4 s) ++ take 4 (drop 8 s) ≡ drop 4 s
+two-words s h =
+    ap (λ (t : List ℕ). take 4 (drop 4 s) ++ take 4 t) (sym (drop-drop 4 4 s)) ∙ sym (take-add 4 4 (drop 4 s))
+    ∙ take-all 8 (drop 4 s) (simp length-drop (omega arith))
+
+zero-word : wordBytes 0 ≡ 0 ∷ 0 ∷ 0 ∷ 0 ∷ []
+unfolding wordBytes
+zero-word = refl
+
+version1-raised : (s : List ℕ) → Bytes s → length s ≡ 12 → revision s ≡ 1 → otherBits s ≡ false
+    → versionTwo (version1 s .permitted) (version1 s .inheritable) (version1 s .effective) ≡ asVersion2 s
+unfolding versionTwo version1
+version1-raised s b h v o =
+    simp (
+      small-low (wordAt s 4) (word-lt s b 4),
+      small-high (wordAt s 4) (word-lt s b 4),
+      small-low (wordAt s 8) (word-lt s b 8),
+      small-high (wordAt s 8) (word-lt s b 8),
+      first-raised (wordAt s 0 % 2) _ (omega arith) refl,
+      ← first-byte s b v o,
+      word-again s b 4 (omega arith),
+      word-again s b 8 (omega arith),
+      zero-word,
+    )
+    (rw (two-words s h, append-assoc (drop 4 s) (replicate 4 0) (replicate 4 0)))
+
+raised : (s : List ℕ) (f : FileCapabilities) → Bytes s → length s ≡ 12 → reading s ≡ File f → WritesAs f (asVersion2 s)
+unfolding fileOf lengthOf
+raised s f b h r =
+    let k : Held s f = held s f (ap (λ (n : ℕ). eqb n 0) h) r in
+    let v : eqb (revision s) 1 ≡ true = revision-of-12 (eqb (revision s) 1) (simp h at (k .sized)) in
+    let is : version1 s ≡ f = simp v at (k .is) in
+    writes-as f (k .range)
+    (ap (λ (g : FileCapabilities). versionTwo (g .permitted) (g .inheritable) (g .effective)) (sym is)
+    ∙ version1-raised s b h (eqb-true (revision s) 1 v) (k .clean))
+
+pub round-trip : RoundTrip
+round-trip = record { back = back; again = again; raised = raised }

@@ -1,0 +1,2 @@
+pub mod Securebits
+pub mod Validity

@@ -1,0 +1,31 @@
+// A thread's credentials: user IDs, capability sets, securebits and no-new-privs, and which of them are valid.
+//
+// All numbers are 64 bits wide, so that each clause of validity can fail. Every function is proved, for every
+// argument: none has a `requires`. The crate assumes nothing.
+pub mod securebits;
+mod validity;
+
+pub use validity::is_valid;
+
+pub struct Ids {
+    pub real: u64,
+    pub effective: u64,
+    pub saved: u64,
+    pub filesystem: u64,
+}
+
+pub struct Sets {
+    pub permitted: u64,
+    pub inheritable: u64,
+    pub effective: u64,
+    pub bounding: u64,
+    pub ambient: u64,
+}
+
+// nnp is no-new-privs.
+pub struct Credentials {
+    pub uids: Ids,
+    pub sets: Sets,
+    pub securebits: u64,
+    pub nnp: bool,
+}

@@ -1,0 +1,63 @@
+// Which credentials are valid.
+use crate::Credentials;
+use crate::Ids;
+use crate::Sets;
+use capabilities::sets;
+ghost use mathlib.Core.Path.{_≡_};
+ghost use Rattle.credentials.specs.Validity.{ambientHeld, idsInRange, noBitAbove40, securebitsInRange, effectivePermitted, valid};
+
+// The largest user ID: 4294967295 stands for "leave it" in some calls.
+const LARGEST_ID: u64 = 4294967294;
+
+// All eight securebits.
+const LARGEST_SECUREBITS: u64 = 255;
+
+// Whether the credentials are valid. No-new-privs is valid either way.
+pub fn is_valid(given: Credentials) -> bool
+    ensures { λ r. ⌜ r ≡ valid given ⌝ }
+{
+    let held = given.sets;
+    let uids = given.uids;
+    effective_is_permitted(held)
+        & ambient_is_held(held)
+        & has_no_bit_above_40(held)
+        & ids_are_in_range(uids)
+        & securebits_are_in_range(given.securebits)
+}
+
+fn effective_is_permitted(held: Sets) -> bool
+    ensures { λ r. ⌜ r ≡ effectivePermitted held ⌝ }
+{
+    sets::is_within(held.effective, held.permitted)
+}
+
+fn ambient_is_held(held: Sets) -> bool
+    ensures { λ r. ⌜ r ≡ ambientHeld held ⌝ }
+{
+    sets::is_within(held.ambient, held.permitted) & sets::is_within(held.ambient, held.inheritable)
+}
+
+fn has_no_bit_above_40(held: Sets) -> bool
+    ensures { λ r. ⌜ r ≡ noBitAbove40 held ⌝ }
+{
+    sets::is_within(held.permitted, sets::FULL)
+        & sets::is_within(held.inheritable, sets::FULL)
+        & sets::is_within(held.effective, sets::FULL)
+        & sets::is_within(held.bounding, sets::FULL)
+        & sets::is_within(held.ambient, sets::FULL)
+}
+
+fn ids_are_in_range(uids: Ids) -> bool
+    ensures { λ r. ⌜ r ≡ idsInRange uids ⌝ }
+{
+    (uids.real <= LARGEST_ID)
+        & (uids.effective <= LARGEST_ID)
+        & (uids.saved <= LARGEST_ID)
+        & (uids.filesystem <= LARGEST_ID)
+}
+
+fn securebits_are_in_range(securebits: u64) -> bool
+    ensures { λ r. ⌜ r ≡ securebitsInRange securebits ⌝ }
+{
+    securebits <= LARGEST_SECUREBITS
+}
