@@ -1,8 +1,12 @@
 // The file capability attribute, security.capability: a reader of versions 1 and 2 and a writer of version 2.
 //
 // Every function is proved, for every argument: no public one has a `requires`. The crate assumes nothing.
-pub mod reader;
-pub mod writer;
+mod reader;
+mod writer;
+
+pub use reader::read;
+pub use reader::reading_code;
+pub use writer::write;
 
 // A file's capabilities: whether an attribute is attached at all, its two sets and its effective bit. Where
 // none is attached the sets are empty and the bit is off.

@@ -41,7 +41,7 @@ pub fn read(bytes: &[u8]) -> Reading
 }
 
 // The number that a reading answers: 0, or 60 where it is unreadable.
-pub fn code(answer: Reading) -> u64
+pub fn reading_code(answer: Reading) -> u64
     ensures { λ r. ⌜ r ≡ readingCode answer ⌝ }
 {
     match answer {
