@@ -1,3 +1,5 @@
-pub mod Stores
 pub mod Words
+pub mod Stores
+pub mod Outcomes
+pub mod ReadBack
 pub mod RoundTrip

@@ -1,128 +1,24 @@
 -- The round trip of attributes holds. Assumes nothing.
-use Prim.Native.Nat.{ℕ, zero, _+_, _*_, _/_, _%_, _≤_, _<_}
-use mathlib.Core.Path.{_≡_, refl, sym, ap, _∙_, subst}
+use Prim.Native.Nat.{ℕ, _+_, _*_, _/_, _%_, _≤_, _<_}
+use mathlib.Core.Path.{_≡_, refl, sym, ap, _∙_}
 use mathlib.Core.Bool.{Bool, true, false, cond, not, _&&_, _||_, true≢false}
 use mathlib.Core.List.{List, [], _∷_, _++_, append-assoc}
 use native.Mathlib.Omega.{arith}
-use lib.Dec.{eqb, ltb}
+use lib.Dec.{eqb}
 use lib.ListN.{length, take, drop, replicate, length-drop}
-use lib.Seq.{take-add, take-all, take-append-seam, drop-drop}
-use borrow.Author.Tests.{eqb-true, eqb-false, not-false, ltb-false, le-ltb}
-use Rattle.capabilities.specs.Sets.{full, union, _⊆_}
-use Rattle.capabilities.proofs.Inclusion.{not-outside, union-sub-l, union-sub-r, full-lt}
+use lib.Seq.{take-add, take-all, drop-drop}
+use borrow.Author.Tests.{eqb-true, eqb-false, not-false}
 use Rattle.attribute.specs.Words.{Bytes, byteAt, wordAt, wordBytes, setOf}
-use Rattle.attribute.specs.Reader.{bitsAbove40, fileOf, lengthOf, lengthOfAnotherRevision, noneAttached, otherBits, otherLength, otherRevision, reading, revision, unreadable, version1, version2}
-use Rattle.attribute.specs.Writer.{firstWord, versionTwo, written, writingCode, bufferAfter}
+use Rattle.attribute.specs.Reader.{bitsAbove40, fileOf, lengthOf, lengthOfAnotherRevision, otherBits, otherLength, otherRevision, reading, revision, unreadable, version1, version2}
+use Rattle.attribute.specs.Writer.{firstWord, versionTwo, written}
 use Rattle.attribute.specs.RoundTrip.{asVersion2, WritesAs, RoundTrip}
 use Rattle.attribute.specs.declared.FileCapabilities.{FileCapabilities}
 use Rattle.attribute.specs.declared.Reading.{Reading}
+use Rattle.attribute.specs.declared.Written.{Written}
 use Rattle.attribute.specs.declared.Reading.the-variants.{File, Unreadable}
-use Rattle.attribute.proofs.Words.{word-of-bytes, word-again, word-lt}
-
--- ---- the writer
-
-code-zero : (t u : Bool) → _≡_ {A = ℕ} (cond t 22 (cond u 28 0)) 0 → (t ≡ false) × (u ≡ false)
-code-zero true u h = absurd (eqb-false 22 0 refl h)
-code-zero false true h = absurd (eqb-false 28 0 refl h)
-code-zero false false h = (refl, refl)
-
--- not refused, the sets are in range and there is room
-done-facts : (p i n : ℕ) → writingCode p i n ≡ 0 → (bitsAbove40 p i ≡ false) × (20 ≤ n)
-unfolding writingCode
-done-facts p i n h = let k = code-zero (bitsAbove40 p i) (ltb n 20) h in (k .0, ltb-false n 20 (k .1))
-
-done-code : (p i n : ℕ) → bitsAbove40 p i ≡ false → 20 ≤ n → writingCode p i n ≡ 0
-unfolding writingCode
-done-code p i n h k = simp (h, le-ltb n 20 k)
-
-done-buffer : (p i : ℕ) (e : Bool) (old : List ℕ) → writingCode p i (length old) ≡ 0 → bufferAfter p i e old ≡ versionTwo p i e ++ drop 20 old
-unfolding bufferAfter
-done-buffer p i e old h = simp h
-
-writes-as : (f : FileCapabilities) {s : List ℕ} → bitsAbove40 (f .permitted) (f .inheritable) ≡ false
-    → versionTwo (f .permitted) (f .inheritable) (f .effective) ≡ s → WritesAs f s
-unfolding written
-writes-as f h e = record {
-  done = λ old k. simp (done-code (f .permitted) (f .inheritable) (length old) h k);
-  leaves = λ old k.
-      done-buffer (f .permitted) (f .inheritable) (f .effective) old (done-code (f .permitted) (f .inheritable) (length old) h k)
-      ∙ ap (λ (t : List ℕ). t ++ drop 20 old) e;
-}
-
--- ---- reading what was written
-
-first-lt : (e : Bool) → firstWord e < 0x100000000
-unfolding firstWord
-first-lt true = omega arith
-first-lt false = omega arith
-
-first-revision : (e : Bool) → firstWord e / 0x1000000 ≡ 2
-unfolding firstWord
-first-revision true = refl
-first-revision false = refl
-
-first-other-bits : (e : Bool) → firstWord e % 0x1000000 / 2 ≡ 0
-unfolding firstWord
-first-other-bits true = refl
-first-other-bits false = refl
-
-first-effective : (e : Bool) → eqb (firstWord e % 2) 1 ≡ e
-unfolding firstWord
-first-effective true = refl
-first-effective false = refl
-
-halves : (a : ℕ) → setOf (a % 0x100000000) (a / 0x100000000) ≡ a
-halves a = omega arith
-
-low-lt : (a : ℕ) → a % 0x100000000 < 0x100000000
-low-lt a = omega arith
-
-high-lt : (a : ℕ) → a ⊆ full → a / 0x100000000 < 0x100000000
-high-lt a h = let k : a < 0x20000000000 = full-lt h in omega arith
-
--- a written attribute's words
-module _ (p i : ℕ) (e : Bool) where
-  word-0 : wordAt (versionTwo p i e) 0 ≡ firstWord e
-  unfolding wordAt versionTwo wordBytes
-  word-0 = word-of-bytes (firstWord e) (first-lt e)
-
-  word-4 : wordAt (versionTwo p i e) 4 ≡ p % 0x100000000
-  unfolding wordAt versionTwo wordBytes
-  word-4 = word-of-bytes (p % 0x100000000) (low-lt p)
-
-  word-8 : wordAt (versionTwo p i e) 8 ≡ i % 0x100000000
-  unfolding wordAt versionTwo wordBytes
-  word-8 = word-of-bytes (i % 0x100000000) (low-lt i)
-
-  word-12 : p ⊆ full → wordAt (versionTwo p i e) 12 ≡ p / 0x100000000
-  unfolding wordAt versionTwo wordBytes
-  word-12 h = word-of-bytes (p / 0x100000000) (high-lt p h)
-
-  word-16 : i ⊆ full → wordAt (versionTwo p i e) 16 ≡ i / 0x100000000
-  unfolding wordAt versionTwo wordBytes
-  word-16 h = word-of-bytes (i / 0x100000000) (high-lt i h)
-
-  written-length : length (versionTwo p i e) ≡ 20
-  unfolding versionTwo wordBytes
-  written-length = refl
-
-  read-back : bitsAbove40 p i ≡ false → reading (versionTwo p i e) ≡ File (record { attached = true; permitted = p; inheritable = i; effective = e })
-  unfolding reading unreadable fileOf version2 lengthOf
-  read-back h =
-      let k : union p i ⊆ full = not-outside (union p i) full h in
-      simp
-      (written-length, word-0, word-4, word-8, word-12 (union-sub-l p i k), word-16 (union-sub-r p i k), first-revision, first-other-bits, first-effective, halves, h)
-
-  first-twenty : (t : List ℕ) → take 20 (versionTwo p i e ++ t) ≡ versionTwo p i e
-  unfolding versionTwo wordBytes
-  first-twenty t = refl
-
-back : (p i : ℕ) (e : Bool) (old : List ℕ) → written p i (length old) .code ≡ 0
-    → reading (take 20 (bufferAfter p i e old)) ≡ File (record { attached = true; permitted = p; inheritable = i; effective = e })
-unfolding written
-back p i e old h =
-    ap (λ (t : List ℕ). reading (take 20 t)) (done-buffer p i e old h) ∙ ap reading (first-twenty p i e (drop 20 old))
-    ∙ read-back p i e (done-facts p i (length old) h .0)
+use Rattle.attribute.proofs.Outcomes.{done, is-done, done-buffer}
+use Rattle.attribute.proofs.ReadBack.{back}
+use Rattle.attribute.proofs.Words.{word-again, word-lt}
 
 -- ---- what a readable attribute holds
 
@@ -193,7 +89,19 @@ unfolding firstWord
 first-again x true l h = let k : x ≡ 1 = eqb-true x 1 h in omega arith
 first-again x false l h = let k : x ≡ 0 = bit-off x l h in omega arith
 
--- ---- writing what was read
+-- ---- writing what was read from version 2
+
+writes-as : (f : FileCapabilities) {s : List ℕ} → bitsAbove40 (f .permitted) (f .inheritable) ≡ false
+    → versionTwo (f .permitted) (f .inheritable) (f .effective) ≡ s → WritesAs f s
+writes-as f h e =
+    let answer : (old : List ℕ) → 20 ≤ length old → written (f .permitted) (f .inheritable) (length old) ≡ done =
+    λ old k. is-done (f .permitted) (f .inheritable) (length old) h k in
+    record {
+      done = answer;
+      leaves = λ old k.
+          done-buffer (f .permitted) (f .inheritable) (f .effective) old (ap (λ (w : Written). w .code) (answer old k))
+          ∙ ap (λ (t : List ℕ). t ++ drop 20 old) e;
+    }
 
 low-of : (l h : ℕ) → l < 0x100000000 → setOf l h % 0x100000000 ≡ l
 low-of l h k = omega arith
@@ -238,6 +146,8 @@ again s f b h r =
     writes-as f (k .range)
     (ap (λ (g : FileCapabilities). versionTwo (g .permitted) (g .inheritable) (g .effective)) (sym is)
     ∙ version2-again s b h (eqb-true (revision s) 2 (v .1)) (k .clean))
+
+-- ---- writing what was read from version 1
 
 -- the first byte of a readable version 1 attribute is its effective bit
 first-byte : (s : List ℕ) → Bytes s → revision s ≡ 1 → otherBits s ≡ false → byteAt s 0 ≡ wordAt s 0 % 2

@@ -4,7 +4,7 @@ use mathlib.Core.Path.{_≡_, refl}
 use mathlib.Core.Bool.{true, false}
 use mathlib.Core.List.{List, [], _∷_}
 use Rattle.capabilities.specs.Header.{CAP-NET-RAW, CAP-SYS-RAWIO}
-use Rattle.capabilities.specs.Sets.{full, has, union, within, outside, single}
+use Rattle.capabilities.specs.Sets.{outside, single}
 use Rattle.attribute.specs.Words.{wordAt, wordBytes}
 use Rattle.attribute.specs.Reader.{fileOf, lengthOf, noneAttached, reading, unreadable, version1, version2}
 use Rattle.attribute.specs.Writer.{firstWord, versionTwo}

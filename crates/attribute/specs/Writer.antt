@@ -22,14 +22,14 @@ versionTwo p i e =
     ++ wordBytes (p / 0x100000000)
     ++ wordBytes (i / 0x100000000)
 
--- 22 for a bit above 40, then 28 for a buffer under 20 bytes, else 0
-unfoldable pub writingCode : ℕ → ℕ → ℕ → ℕ
-writingCode p i room = cond (bitsAbove40 p i) 22 (cond (ltb room 20) 28 0)
+-- a refusal: its number, and no byte written
+abbrev pub refused : ℕ → Written
+refused number = record { code = number; length = 0 }
 
--- the answer: the code, and 20 bytes where it is 0, else none
+-- the answer: 22 for a bit above 40, then 28 for a buffer under 20 bytes, else 0 and 20 bytes
 unfoldable pub written : ℕ → ℕ → ℕ → Written
-written p i room = record { code = writingCode p i room; length = cond (eqb (writingCode p i room) 0) 20 0 }
+written p i room = cond (bitsAbove40 p i) (refused 22) (cond (ltb room 20) (refused 28) (record { code = 0; length = 20 }))
 
 -- the buffer afterwards: the 20 bytes and past them what was there; refused, all of what was there
 unfoldable pub bufferAfter : ℕ → ℕ → Bool → List ℕ → List ℕ
-bufferAfter p i e old = cond (eqb (writingCode p i (length old)) 0) (versionTwo p i e ++ drop 20 old) old
+bufferAfter p i e old = cond (eqb (written p i (length old) .code) 0) (versionTwo p i e ++ drop 20 old) old

@@ -4,9 +4,9 @@ use crate::Reading;
 use capabilities::sets;
 ghost use mathlib.Core.Path.{_≡_};
 ghost use Prim.Native.Nat.{_≤_, _<_};
-ghost use lib.ListN.{length, getD};
+ghost use lib.ListN.{length};
 ghost use Rattle.attribute.specs.Words.{byteAt, setOf, wordAt};
-ghost use Rattle.attribute.specs.Reader.{bitsAbove40, effectiveBit, fileOf, lengthOf, lengthOfAnotherRevision, noneAttached, otherBits, otherLength, otherRevision, reading, readingCode, revision, unreadable, version1, version2};
+ghost use Rattle.attribute.specs.Reader.{bitsAbove40, effectiveBit, fileOf, lengthOf, lengthOfAnotherRevision, otherBits, otherLength, otherRevision, reading, readingCode, revision, unreadable, version1, version2};
 
 // The lengths of an attribute, by its version.
 const XATTR_CAPS_SZ_1: usize = 12;
@@ -32,7 +32,12 @@ pub fn read(bytes: &[u8]) -> Reading
     ensures { λ r. ⌜ r ≡ reading (now (bytes .entry)) ⌝ }
 {
     if bytes.len() == 0 {
-        return Reading::File(none_attached());
+        return Reading::File(FileCapabilities {
+            attached: false,
+            permitted: 0,
+            inheritable: 0,
+            effective: false,
+        });
     }
     if is_unreadable(bytes) {
         return Reading::Unreadable;
@@ -47,17 +52,6 @@ pub fn reading_code(answer: Reading) -> u64
     match answer {
         Reading::File(_) => 0,
         Reading::Unreadable => 60,
-    }
-}
-
-fn none_attached() -> FileCapabilities
-    ensures { λ r. ⌜ r ≡ noneAttached ⌝ }
-{
-    FileCapabilities {
-        attached: false,
-        permitted: 0,
-        inheritable: 0,
-        effective: false,
     }
 }
 

@@ -6,7 +6,7 @@ ghost use Prim.Native.Nat.{_+_, _≤_, _<_};
 ghost use lib.ListN.{length};
 ghost use lib.Seq.{sets};
 ghost use Rattle.attribute.specs.Words.{wordBytes};
-ghost use Rattle.attribute.specs.Writer.{bufferAfter, firstWord, versionTwo, written};
+ghost use Rattle.attribute.specs.Writer.{bufferAfter, firstWord, refused, versionTwo, written};
 
 // The first word of version 2 with the effective bit off, and that bit.
 const VFS_CAP_REVISION_2: u64 = 0x0200_0000;
@@ -22,21 +22,24 @@ pub fn write(permitted: u64, inheritable: u64, effective: bool, buffer: &mut [u8
     ensures { λ r. ⌜ (r ≡ written permitted inheritable (length (now (buffer .entry)))) × (now (buffer .exit) ≡ bufferAfter permitted inheritable effective (now (buffer .entry))) ⌝ }
 {
     if has_bits_above_40(permitted, inheritable) {
-        return Written {
-            code: 22,
-            length: 0,
-        };
+        return refused(22);
     }
     if buffer.len() < XATTR_CAPS_SZ_2 {
-        return Written {
-            code: 28,
-            length: 0,
-        };
+        return refused(28);
     }
     put_words(permitted, inheritable, effective, buffer);
     Written {
         code: 0,
         length: XATTR_CAPS_SZ_2,
+    }
+}
+
+fn refused(number: u64) -> Written
+    ensures { λ r. ⌜ r ≡ refused number ⌝ }
+{
+    Written {
+        code: number,
+        length: 0,
     }
 }
 

@@ -1,5 +1,5 @@
 -- Members and inclusion as facts: what follows from what, the order, the tests that decide it, and bounds.
--- An inclusion of one expression in another is `search inclusions`. Assumes nothing.
+-- An inclusion of one expression in another is `search inclusions`, with `depth 8` behind it where they nest deep. Assumes nothing.
 use mathlib.Core.Path.{_≡_, refl, sym, ap, _∙_, subst}
 use mathlib.Core.Bool.{Bool, true, false, not, _&&_, _||_, true≢false, false≢true}
 use Prim.Native.Nat.{ℕ, _+_, _-_, _*_, _/_, _%_, _^_, _≤_, _<_}

@@ -2,3 +2,4 @@ pub mod Membership
 pub mod Inclusion
 pub mod Masks
 pub mod Solve
+mod Examples

@@ -1,7 +1,7 @@
 -- Membership in each operation's result, and equality by members. No law has a side condition that it does not state.
 -- Assumes nothing.
 use mathlib.Core.Path.{_≡_, refl, sym, ap, ap₂, _∙_}
-use mathlib.Core.Bool.{Bool, true, false, not, _&&_, _||_, cond}
+use mathlib.Core.Bool.{Bool, false, not, _&&_, _||_, cond}
 use Prim.Native.Nat.{ℕ, zero, suc, _+_, _-_, _*_, _/_, _%_, _^_, _≤_, _<_, min, max, zero-le, suc-le-suc}
 use native.Mathlib.Nat.{le-of-suc-le-suc, not-suc-le-zero, zero-lt-suc, mod-lt, pow-suc, div-div-eq-div-mul, div-one, div-eq-of-lt, mul-comm, lt-of-lt-of-le, lt-of-le-of-lt, le-add-right, le-refl, one-mul, lt-suc-self}
 use native.Mathlib.Omega.{arith}
@@ -10,7 +10,7 @@ use lib.Arith.{digits-div, digits-mod, lt-one}
 use lib.Pow.{pow-pos, pow-mono, pow-lt}
 use lib.Bits.{bitwise-step, bitAnd, bitOr, and-step, or-step, shifted-half, shifted-even}
 use borrow.Author.Tests.{eqb-false, lt-ltb, le-ltb}
-use Rattle.capabilities.specs.Sets.{has, lacks, union, inter, minus, single}
+use Rattle.capabilities.specs.Sets.{has, union, inter, minus, single}
 
 -- ---- bits
 

@@ -8,6 +8,9 @@ ghost use Rattle.capabilities.specs.Sets.{has, lacks, minus, outside, si
 // Every capability there is, 0 to 40.
 pub const FULL: u64 = 0x1ff_ffff_ffff;
 
+// How many bits a set has.
+const WORD_BITS: u64 = 64;
+
 // What is in a and not in b.
 pub fn difference(a: u64, b: u64) -> u64
     ensures { λ r. ⌜ r ≡ minus a b ⌝ }
@@ -19,7 +22,7 @@ pub fn difference(a: u64, b: u64) -> u64
 pub fn single(n: u64) -> u64
     ensures { λ r. ⌜ r ≡ single n ⌝ }
 {
-    if n < 64 {
+    if n < WORD_BITS {
         return 1u64 << n;
     }
     0
@@ -29,7 +32,7 @@ pub fn single(n: u64) -> u64
 pub fn has(a: u64, n: u64) -> bool
     ensures { λ r. ⌜ r ≡ has a n ⌝ }
 {
-    if n < 64 {
+    if n < WORD_BITS {
         return (a >> n) & 1 == 1;
     }
     false

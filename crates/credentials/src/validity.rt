@@ -4,7 +4,7 @@ use crate::Ids;
 use crate::Sets;
 use capabilities::sets;
 ghost use mathlib.Core.Path.{_≡_};
-ghost use Rattle.credentials.specs.Validity.{ambientHeld, idsInRange, noBitAbove40, securebitsInRange, effectivePermitted, valid};
+ghost use Rattle.credentials.specs.Validity.{ambientHeld, idsInRange, noBitAbove40, valid};
 
 // The largest user ID: 4294967295 stands for "leave it" in some calls.
 const LARGEST_ID: u64 = 4294967294;
@@ -18,17 +18,11 @@ pub fn is_valid(given: Credentials) -> bool
 {
     let held = given.sets;
     let uids = given.uids;
-    effective_is_permitted(held)
+    sets::is_within(held.effective, held.permitted)
         & ambient_is_held(held)
         & has_no_bit_above_40(held)
         & ids_are_in_range(uids)
-        & securebits_are_in_range(given.securebits)
-}
-
-fn effective_is_permitted(held: Sets) -> bool
-    ensures { λ r. ⌜ r ≡ effectivePermitted held ⌝ }
-{
-    sets::is_within(held.effective, held.permitted)
+        & (given.securebits <= LARGEST_SECUREBITS)
 }
 
 fn ambient_is_held(held: Sets) -> bool
@@ -54,10 +48,4 @@ fn ids_are_in_range(uids: Ids) -> bool
         & (uids.effective <= LARGEST_ID)
         & (uids.saved <= LARGEST_ID)
         & (uids.filesystem <= LARGEST_ID)
-}
-
-fn securebits_are_in_range(securebits: u64) -> bool
-    ensures { λ r. ⌜ r ≡ securebitsInRange securebits ⌝ }
-{
-    securebits <= LARGEST_SECUREBITS
 }

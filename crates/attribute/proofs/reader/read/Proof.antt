@@ -5,16 +5,9 @@ use borrow.Author.Needs.{needs}
 use Rattle.attribute.proofs.reader.read.Statement.{statement}
 use Rattle.attribute.proofs.reader.read.Tie as tie
 
-none-attached-requires : tie.Need-none-attached-requires
-none-attached-requires c κs = search needs
-
 returns : tie.Need-returns
 unfolding reading
-returns c =
-    simp (
-      ← (c .none-attached .ensures),
-      eq-eqb _ _ (c .before .if1 .taken),
-    )
+returns c = simp (eq-eqb _ _ (c .if1 .taken))
 
 is-unreadable-requires : tie.Need-is-unreadable-requires
 is-unreadable-requires c κs = search needs
@@ -43,11 +36,4 @@ returns-3 c =
 
 pub read-spec : {M : Type 1} → statement M
 read-spec =
-    tie.close
-    (tie.spec
-    none-attached-requires
-    returns
-    is-unreadable-requires
-    returns-2
-    file-of-requires
-    returns-3)
+    tie.close (tie.spec returns is-unreadable-requires returns-2 file-of-requires returns-3)
