@@ -8,7 +8,7 @@ use lib.Dec.{ltb}
 use lib.ListN.{length, drop}
 use borrow.Author.Tests.{eqb-false, le-ltb, lt-ltb, ltb-false, ne-eqb}
 use Rattle.attribute.specs.Reader.{bitsAbove40}
-use Rattle.attribute.specs.Writer.{bufferAfter, refused, versionTwo, written}
+use Rattle.attribute.specs.Writer.{bufferAfter, refused, version2Bytes, written}
 use Rattle.attribute.specs.declared.Written.{Written}
 
 abbrev pub done : Written
@@ -41,6 +41,6 @@ module _ (p i : ℕ) (e : Bool) (old : List ℕ) where
   unfolding bufferAfter
   refused-buffer number k h = simp (h, ne-eqb number 0 (λ z. omega arith))
 
-  pub done-buffer : written p i (length old) .code ≡ 0 → bufferAfter p i e old ≡ versionTwo p i e ++ drop 20 old
+  pub done-buffer : written p i (length old) .code ≡ 0 → bufferAfter p i e old ≡ version2Bytes p i e ++ drop 20 old
   unfolding bufferAfter
   done-buffer h = simp h

@@ -10,7 +10,7 @@ use Rattle.capabilities.specs.Sets.{full, union, _⊆_}
 use Rattle.capabilities.proofs.Inclusion.{not-outside, union-sub-l, union-sub-r, full-lt}
 use Rattle.attribute.specs.Words.{wordAt, wordBytes, setOf}
 use Rattle.attribute.specs.Reader.{bitsAbove40, fileOf, lengthOf, reading, unreadable, version2}
-use Rattle.attribute.specs.Writer.{firstWord, versionTwo, written, bufferAfter}
+use Rattle.attribute.specs.Writer.{firstWord, version2Bytes, written, bufferAfter}
 use Rattle.attribute.specs.declared.Reading.the-variants.{File}
 use Rattle.attribute.proofs.Outcomes.{done-facts, done-buffer}
 use Rattle.attribute.proofs.Words.{word-of-bytes}
@@ -50,39 +50,39 @@ high-lt a h = let k : a < 0x20000000000 = full-lt h in omega arith
 
 -- a written attribute's words
 module _ (p i : ℕ) (e : Bool) where
-  word-0 : wordAt (versionTwo p i e) 0 ≡ firstWord e
-  unfolding wordAt versionTwo wordBytes
+  word-0 : wordAt (version2Bytes p i e) 0 ≡ firstWord e
+  unfolding wordAt version2Bytes wordBytes
   word-0 = word-of-bytes (firstWord e) (first-lt e)
 
-  word-4 : wordAt (versionTwo p i e) 4 ≡ p % 0x100000000
-  unfolding wordAt versionTwo wordBytes
+  word-4 : wordAt (version2Bytes p i e) 4 ≡ p % 0x100000000
+  unfolding wordAt version2Bytes wordBytes
   word-4 = word-of-bytes (p % 0x100000000) (low-lt p)
 
-  word-8 : wordAt (versionTwo p i e) 8 ≡ i % 0x100000000
-  unfolding wordAt versionTwo wordBytes
+  word-8 : wordAt (version2Bytes p i e) 8 ≡ i % 0x100000000
+  unfolding wordAt version2Bytes wordBytes
   word-8 = word-of-bytes (i % 0x100000000) (low-lt i)
 
-  word-12 : p ⊆ full → wordAt (versionTwo p i e) 12 ≡ p / 0x100000000
-  unfolding wordAt versionTwo wordBytes
+  word-12 : p ⊆ full → wordAt (version2Bytes p i e) 12 ≡ p / 0x100000000
+  unfolding wordAt version2Bytes wordBytes
   word-12 h = word-of-bytes (p / 0x100000000) (high-lt p h)
 
-  word-16 : i ⊆ full → wordAt (versionTwo p i e) 16 ≡ i / 0x100000000
-  unfolding wordAt versionTwo wordBytes
+  word-16 : i ⊆ full → wordAt (version2Bytes p i e) 16 ≡ i / 0x100000000
+  unfolding wordAt version2Bytes wordBytes
   word-16 h = word-of-bytes (i / 0x100000000) (high-lt i h)
 
-  written-length : length (versionTwo p i e) ≡ 20
-  unfolding versionTwo wordBytes
+  written-length : length (version2Bytes p i e) ≡ 20
+  unfolding version2Bytes wordBytes
   written-length = refl
 
-  read-back : bitsAbove40 p i ≡ false → reading (versionTwo p i e) ≡ File (record { attached = true; permitted = p; inheritable = i; effective = e })
+  read-back : bitsAbove40 p i ≡ false → reading (version2Bytes p i e) ≡ File (record { attached = true; permitted = p; inheritable = i; effective = e })
   unfolding reading unreadable fileOf version2 lengthOf
   read-back h =
       let k : union p i ⊆ full = not-outside (union p i) full h in
       simp
       (written-length, word-0, word-4, word-8, word-12 (union-sub-l p i k), word-16 (union-sub-r p i k), first-revision, first-other-bits, first-effective, halves, h)
 
-  first-twenty : (t : List ℕ) → take 20 (versionTwo p i e ++ t) ≡ versionTwo p i e
-  unfolding versionTwo wordBytes
+  first-twenty : (t : List ℕ) → take 20 (version2Bytes p i e ++ t) ≡ version2Bytes p i e
+  unfolding version2Bytes wordBytes
   first-twenty t = refl
 
 pub back : (p i : ℕ) (e : Bool) (old : List ℕ) → written p i (length old) .code ≡ 0

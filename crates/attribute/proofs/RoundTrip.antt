@@ -10,7 +10,7 @@ use lib.Seq.{take-add, take-all, drop-drop}
 use borrow.Author.Tests.{eqb-true, eqb-false, not-false}
 use Rattle.attribute.specs.Words.{Bytes, byteAt, wordAt, wordBytes, setOf}
 use Rattle.attribute.specs.Reader.{bitsAbove40, fileOf, lengthOf, lengthOfAnotherRevision, otherBits, otherLength, otherRevision, reading, revision, unreadable, version1, version2}
-use Rattle.attribute.specs.Writer.{firstWord, versionTwo, written}
+use Rattle.attribute.specs.Writer.{firstWord, version2Bytes, written}
 use Rattle.attribute.specs.RoundTrip.{asVersion2, WritesAs, RoundTrip}
 use Rattle.attribute.specs.declared.FileCapabilities.{FileCapabilities}
 use Rattle.attribute.specs.declared.Reading.{Reading}
@@ -92,7 +92,7 @@ first-again x false l h = let k : x ≡ 0 = bit-off x l h in omega arith
 -- ---- writing what was read from version 2
 
 writes-as : (f : FileCapabilities) {s : List ℕ} → bitsAbove40 (f .permitted) (f .inheritable) ≡ false
-    → versionTwo (f .permitted) (f .inheritable) (f .effective) ≡ s → WritesAs f s
+    → version2Bytes (f .permitted) (f .inheritable) (f .effective) ≡ s → WritesAs f s
 writes-as f h e =
     let answer : (old : List ℕ) → 20 ≤ length old → written (f .permitted) (f .inheritable) (length old) ≡ done =
     λ old k. is-done (f .permitted) (f .inheritable) (length old) h k in
@@ -123,8 +123,8 @@ five-again s b h =
     (word-by-word s h)
 
 version2-again : (s : List ℕ) → Bytes s → length s ≡ 20 → revision s ≡ 2 → otherBits s ≡ false
-    → versionTwo (version2 s .permitted) (version2 s .inheritable) (version2 s .effective) ≡ s
-unfolding versionTwo version2
+    → version2Bytes (version2 s .permitted) (version2 s .inheritable) (version2 s .effective) ≡ s
+unfolding version2Bytes version2
 version2-again s b h v o =
     let first : wordAt s 0 ≡ 0x2000000 + wordAt s 0 % 2 = first-bits (wordAt s 0) 2 v (eqb-true _ _ (not-false _ o)) in
     simp (
@@ -144,7 +144,7 @@ again s f b h r =
     let v = revision-of-20 (eqb (revision s) 1) (eqb (revision s) 2) (k .version) (simp h at (k .sized)) in
     let is : version2 s ≡ f = simp (v .0) at (k .is) in
     writes-as f (k .range)
-    (ap (λ (g : FileCapabilities). versionTwo (g .permitted) (g .inheritable) (g .effective)) (sym is)
+    (ap (λ (g : FileCapabilities). version2Bytes (g .permitted) (g .inheritable) (g .effective)) (sym is)
     ∙ version2-again s b h (eqb-true (revision s) 2 (v .1)) (k .clean))
 
 -- ---- writing what was read from version 1
@@ -182,8 +182,8 @@ unfolding wordBytes
 zero-word = refl
 
 version1-raised : (s : List ℕ) → Bytes s → length s ≡ 12 → revision s ≡ 1 → otherBits s ≡ false
-    → versionTwo (version1 s .permitted) (version1 s .inheritable) (version1 s .effective) ≡ asVersion2 s
-unfolding versionTwo version1
+    → version2Bytes (version1 s .permitted) (version1 s .inheritable) (version1 s .effective) ≡ asVersion2 s
+unfolding version2Bytes version1
 version1-raised s b h v o =
     simp (
       small-low (wordAt s 4) (word-lt s b 4),
@@ -205,7 +205,7 @@ raised s f b h r =
     let v : eqb (revision s) 1 ≡ true = revision-of-12 (eqb (revision s) 1) (simp h at (k .sized)) in
     let is : version1 s ≡ f = simp v at (k .is) in
     writes-as f (k .range)
-    (ap (λ (g : FileCapabilities). versionTwo (g .permitted) (g .inheritable) (g .effective)) (sym is)
+    (ap (λ (g : FileCapabilities). version2Bytes (g .permitted) (g .inheritable) (g .effective)) (sym is)
     ∙ version1-raised s b h (eqb-true (revision s) 1 v) (k .clean))
 
 pub round-trip : RoundTrip

@@ -7,7 +7,7 @@ use native.Mathlib.Omega.{arith}
 use lib.ListN.{length, drop, set}
 use lib.Seq.{sets, sets-eq}
 use Rattle.attribute.specs.Words.{wordBytes}
-use Rattle.attribute.specs.Writer.{versionTwo}
+use Rattle.attribute.specs.Writer.{version2Bytes}
 
 -- four stores, one place after the other
 pub four-stores : (l : List ℕ) (at a b c d : ℕ) → set (set (set (set l at a) (at + 1) b) (at + 2) c) (at + 3) d ≡ sets l at (a ∷ b ∷ c ∷ d ∷ [])
@@ -27,6 +27,6 @@ five-words l a b c d e p q r s t =
     (r ∙ ap (λ (m : List ℕ). sets m 8 (wordBytes c)) (q ∙ ap (λ (m : List ℕ). sets m 4 (wordBytes b)) p)))
 
 -- stored at the start, an attribute is followed by what was there past its 20 bytes
-pub stored-in-front : (l : List ℕ) (p i : ℕ) (e : Bool) → 20 ≤ length l → sets l 0 (versionTwo p i e) ≡ versionTwo p i e ++ drop 20 l
-unfolding versionTwo wordBytes
-stored-in-front l p i e h = sets-eq (versionTwo p i e) l 0 h
+pub stored-in-front : (l : List ℕ) (p i : ℕ) (e : Bool) → 20 ≤ length l → sets l 0 (version2Bytes p i e) ≡ version2Bytes p i e ++ drop 20 l
+unfolding version2Bytes wordBytes
+stored-in-front l p i e h = sets-eq (version2Bytes p i e) l 0 h

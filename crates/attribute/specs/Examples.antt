@@ -7,7 +7,7 @@ use Rattle.capabilities.specs.Header.{CAP-NET-RAW, CAP-SYS-RAWIO}
 use Rattle.capabilities.specs.Sets.{outside, single}
 use Rattle.attribute.specs.Words.{wordAt, wordBytes}
 use Rattle.attribute.specs.Reader.{fileOf, lengthOf, noneAttached, reading, unreadable, version1, version2}
-use Rattle.attribute.specs.Writer.{firstWord, versionTwo}
+use Rattle.attribute.specs.Writer.{firstWord, version2Bytes}
 use Rattle.attribute.specs.declared.Reading.the-variants.{File, Unreadable}
 
 -- 0100000200200000000000000000000000000000
@@ -21,8 +21,8 @@ unfolding netRaw reading unreadable fileOf version2 lengthOf wordAt outside sing
 net-raw = refl
 
 -- and those are the bytes written for it
-net-raw-written : versionTwo (single CAP-NET-RAW) 0 true ≡ netRaw
-unfolding netRaw versionTwo wordBytes firstWord single
+net-raw-written : version2Bytes (single CAP-NET-RAW) 0 true ≡ netRaw
+unfolding netRaw version2Bytes wordBytes firstWord single
 net-raw-written = refl
 
 -- no bytes

@@ -14,8 +14,8 @@ unfoldable pub firstWord : Bool → ℕ
 firstWord e = cond e 0x2000001 0x2000000
 
 -- the 20 bytes of two sets and an effective bit
-unfoldable pub versionTwo : ℕ → ℕ → Bool → List ℕ
-versionTwo p i e =
+unfoldable pub version2Bytes : ℕ → ℕ → Bool → List ℕ
+version2Bytes p i e =
     wordBytes (firstWord e)
     ++ wordBytes (p % 0x100000000)
     ++ wordBytes (i % 0x100000000)
@@ -32,4 +32,4 @@ written p i room = cond (bitsAbove40 p i) (refused 22) (cond (ltb room 20) (refu
 
 -- the buffer afterwards: the 20 bytes and past them what was there; refused, all of what was there
 unfoldable pub bufferAfter : ℕ → ℕ → Bool → List ℕ → List ℕ
-bufferAfter p i e old = cond (eqb (written p i (length old) .code) 0) (versionTwo p i e ++ drop 20 old) old
+bufferAfter p i e old = cond (eqb (written p i (length old) .code) 0) (version2Bytes p i e ++ drop 20 old) old

@@ -1,6 +1,17 @@
-// Reading an attribute of version 1 or 2 from bytes of any length and content.
+// Reading an attribute of version 1 or 2 from bytes of any length and content. Each private function computes the
+// definition in specs/Reader.antt or specs/Words.antt that its contract names.
+use crate::DONE;
+use crate::FIRST_WORD;
 use crate::FileCapabilities;
+use crate::INHERITABLE_HIGH;
+use crate::INHERITABLE_LOW;
+use crate::PERMITTED_HIGH;
+use crate::PERMITTED_LOW;
 use crate::Reading;
+use crate::UNREADABLE;
+use crate::WORD;
+use crate::XATTR_CAPS_SZ_1;
+use crate::XATTR_CAPS_SZ_2;
 use capabilities::sets;
 ghost use mathlib.Core.Path.{_≡_};
 ghost use Prim.Native.Nat.{_≤_, _<_};
@@ -8,24 +19,8 @@ ghost use lib.ListN.{length};
 ghost use Rattle.attribute.specs.Words.{byteAt, setOf, wordAt};
 ghost use Rattle.attribute.specs.Reader.{bitsAbove40, effectiveBit, fileOf, lengthOf, lengthOfAnotherRevision, otherBits, otherLength, otherRevision, reading, readingCode, revision, unreadable, version1, version2};
 
-// The lengths of an attribute, by its version.
-const XATTR_CAPS_SZ_1: usize = 12;
-
-const XATTR_CAPS_SZ_2: usize = 20;
-
-// The first word's top byte is the revision, its lowest bit the effective bit.
+// The first word's top byte is the revision.
 const REVISION_UNIT: u64 = 0x0100_0000;
-
-// Where an attribute's words are.
-const FIRST_WORD: usize = 0;
-
-const PERMITTED_LOW: usize = 4;
-
-const INHERITABLE_LOW: usize = 8;
-
-const PERMITTED_HIGH: usize = 12;
-
-const INHERITABLE_HIGH: usize = 16;
 
 // The file's capabilities that bytes stand for, or that they are unreadable. No bytes mean that no attribute is attached.
 pub fn read(bytes: &[u8]) -> Reading
@@ -50,8 +45,8 @@ pub fn reading_code(answer: Reading) -> u64
     ensures { λ r. ⌜ r ≡ readingCode answer ⌝ }
 {
     match answer {
-        Reading::File(_) => 0,
-        Reading::Unreadable => 60,
+        Reading::File(_) => DONE,
+        Reading::Unreadable => UNREADABLE,
     }
 }
 
@@ -155,7 +150,7 @@ fn set_of(low: u64, high: u64) -> u64
     requires { ⌜ (low < 0x100000000) × (high < 0x100000000) ⌝ }
     ensures { λ r. ⌜ r ≡ setOf low high ⌝ }
 {
-    low + 0x1_0000_0000 * high
+    low + WORD * high
 }
 
 // The little-endian word that starts at `at`. A byte past the end counts as 0.

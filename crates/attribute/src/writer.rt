@@ -1,35 +1,42 @@
 // Writing an attribute of version 2 into a buffer that the caller lends.
+use crate::DONE;
+use crate::FIRST_WORD;
+use crate::INHERITABLE_HIGH;
+use crate::INHERITABLE_LOW;
+use crate::NO_ROOM;
+use crate::OUT_OF_RANGE;
+use crate::PERMITTED_HIGH;
+use crate::PERMITTED_LOW;
+use crate::WORD;
 use crate::Written;
+use crate::XATTR_CAPS_SZ_2;
 use crate::reader::has_bits_above_40;
 ghost use mathlib.Core.Path.{_≡_};
 ghost use Prim.Native.Nat.{_+_, _≤_, _<_};
 ghost use lib.ListN.{length};
 ghost use lib.Seq.{sets};
 ghost use Rattle.attribute.specs.Words.{wordBytes};
-ghost use Rattle.attribute.specs.Writer.{bufferAfter, firstWord, refused, versionTwo, written};
+ghost use Rattle.attribute.specs.Writer.{bufferAfter, firstWord, refused, version2Bytes, written};
 
 // The first word of version 2 with the effective bit off, and that bit.
 const VFS_CAP_REVISION_2: u64 = 0x0200_0000;
 
 const VFS_CAP_FLAGS_EFFECTIVE: u64 = 1;
 
-// The length of a version 2 attribute.
-const XATTR_CAPS_SZ_2: usize = 20;
-
-// Writes a version 2 attribute at the start of buffer: 22 where a set has a bit above 40, then 28 where buffer
+// Writes two sets and an effective bit as a version 2 attribute at the start of buffer: 22 where a set has a bit above 40, then 28 where buffer
 // is shorter than 20 bytes, and in both cases nothing is written; else 20 bytes, and those past them stay.
 pub fn write(permitted: u64, inheritable: u64, effective: bool, buffer: &mut [u8]) -> Written
     ensures { λ r. ⌜ (r ≡ written permitted inheritable (length (now (buffer .entry)))) × (now (buffer .exit) ≡ bufferAfter permitted inheritable effective (now (buffer .entry))) ⌝ }
 {
     if has_bits_above_40(permitted, inheritable) {
-        return refused(22);
+        return refused(OUT_OF_RANGE);
     }
     if buffer.len() < XATTR_CAPS_SZ_2 {
-        return refused(28);
+        return refused(NO_ROOM);
     }
     put_words(permitted, inheritable, effective, buffer);
     Written {
-        code: 0,
+        code: DONE,
         length: XATTR_CAPS_SZ_2,
     }
 }
@@ -45,13 +52,13 @@ fn refused(number: u64) -> Written
 
 fn put_words(permitted: u64, inheritable: u64, effective: bool, buffer: &mut [u8])
     requires { ⌜ 20 ≤ length (now buffer) ⌝ }
-    ensures { λ _. ⌜ now (buffer .exit) ≡ sets (now (buffer .entry)) 0 (versionTwo permitted inheritable effective) ⌝ }
+    ensures { λ _. ⌜ now (buffer .exit) ≡ sets (now (buffer .entry)) 0 (version2Bytes permitted inheritable effective) ⌝ }
 {
-    put_word(first_word(effective), buffer, 0);
-    put_word(permitted % 0x1_0000_0000, buffer, 4);
-    put_word(inheritable % 0x1_0000_0000, buffer, 8);
-    put_word(permitted / 0x1_0000_0000, buffer, 12);
-    put_word(inheritable / 0x1_0000_0000, buffer, 16);
+    put_word(first_word(effective), buffer, FIRST_WORD);
+    put_word(permitted % WORD, buffer, PERMITTED_LOW);
+    put_word(inheritable % WORD, buffer, INHERITABLE_LOW);
+    put_word(permitted / WORD, buffer, PERMITTED_HIGH);
+    put_word(inheritable / WORD, buffer, INHERITABLE_HIGH);
 }
 
 fn first_word(effective: bool) -> u64

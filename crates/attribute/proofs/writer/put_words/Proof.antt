@@ -3,7 +3,7 @@ use Prim.Native.Nat.{ℕ, _/_, _%_}
 use mathlib.Core.Path.{ap, _∙_}
 use lib.Seq.{sets}
 use Rattle.attribute.specs.Words.{wordBytes}
-use Rattle.attribute.specs.Writer.{firstWord, versionTwo}
+use Rattle.attribute.specs.Writer.{firstWord, version2Bytes}
 use Rattle.attribute.proofs.Stores.{five-words}
 use borrow.Author.Needs.{needs}
 use Rattle.attribute.proofs.writer.put_words.Statement.{statement}
@@ -31,7 +31,7 @@ same-length : tie.Need-same-length
 same-length c = search needs
 
 returns : tie.Need-returns
-unfolding versionTwo
+unfolding version2Bytes
 returns c =
     let fifth = c .before .before in
     let fourth = fifth .before .before .before .before in
