@@ -17,7 +17,7 @@ ghost use mathlib.Core.Path.{_≡_};
 ghost use Prim.Native.Nat.{_≤_, _<_};
 ghost use lib.ListN.{length};
 ghost use Rattle.attribute.specs.Words.{byteAt, setOf, wordAt};
-ghost use Rattle.attribute.specs.Reader.{bitsAbove40, effectiveBit, fileOf, lengthOf, lengthOfAnotherRevision, otherBits, otherLength, otherRevision, reading, readingCode, revision, unreadable, version1, version2};
+ghost use Rattle.attribute.specs.Reader.{bitsAbove40, fileOf, lengthOf, reading, readingCode, unreadable, version1, version2};
 
 // The first word's top byte is the revision.
 const REVISION_UNIT: u64 = 0x0100_0000;
@@ -53,44 +53,15 @@ pub fn reading_code(answer: Reading) -> u64
 fn is_unreadable(bytes: &[u8]) -> bool
     ensures { λ r. ⌜ r ≡ unreadable (now (bytes .entry)) ⌝ }
 {
-    let file = file_of(bytes);
-    has_other_length(bytes)
-        | has_other_revision(bytes)
-        | has_length_of_another_revision(bytes)
-        | has_other_bits(bytes)
-        | has_bits_above_40(file.permitted, file.inheritable)
-}
-
-fn revision(bytes: &[u8]) -> u64
-    ensures { λ r. ⌜ r ≡ revision (now (bytes .entry)) ⌝ }
-{
-    word(bytes, FIRST_WORD) / REVISION_UNIT
-}
-
-fn effective_bit(bytes: &[u8]) -> bool
-    ensures { λ r. ⌜ r ≡ effectiveBit (now (bytes .entry)) ⌝ }
-{
-    word(bytes, FIRST_WORD) % 2 == 1
-}
-
-fn has_other_length(bytes: &[u8]) -> bool
-    ensures { λ r. ⌜ r ≡ otherLength (now (bytes .entry)) ⌝ }
-{
     let length = bytes.len();
-    (length != XATTR_CAPS_SZ_1) & (length != XATTR_CAPS_SZ_2)
-}
-
-fn has_other_revision(bytes: &[u8]) -> bool
-    ensures { λ r. ⌜ r ≡ otherRevision (now (bytes .entry)) ⌝ }
-{
-    let version = revision(bytes);
-    (version != 1) & (version != 2)
-}
-
-fn has_length_of_another_revision(bytes: &[u8]) -> bool
-    ensures { λ r. ⌜ r ≡ lengthOfAnotherRevision (now (bytes .entry)) ⌝ }
-{
-    bytes.len() != length_of(revision(bytes))
+    let first = word(bytes, FIRST_WORD);
+    let version = first / REVISION_UNIT;
+    let file = file_of(bytes);
+    ((length != XATTR_CAPS_SZ_1) & (length != XATTR_CAPS_SZ_2))
+        | ((version != 1) & (version != 2))
+        | (length != length_of(version))
+        | (first % REVISION_UNIT / 2 != 0)
+        | has_bits_above_40(file.permitted, file.inheritable)
 }
 
 fn length_of(version: u64) -> usize
@@ -102,12 +73,6 @@ fn length_of(version: u64) -> usize
     XATTR_CAPS_SZ_2
 }
 
-fn has_other_bits(bytes: &[u8]) -> bool
-    ensures { λ r. ⌜ r ≡ otherBits (now (bytes .entry)) ⌝ }
-{
-    word(bytes, FIRST_WORD) % REVISION_UNIT / 2 != 0
-}
-
 pub(crate) fn has_bits_above_40(permitted: u64, inheritable: u64) -> bool
     ensures { λ r. ⌜ r ≡ bitsAbove40 permitted inheritable ⌝ }
 {
@@ -117,7 +82,7 @@ pub(crate) fn has_bits_above_40(permitted: u64, inheritable: u64) -> bool
 fn file_of(bytes: &[u8]) -> FileCapabilities
     ensures { λ r. ⌜ r ≡ fileOf (now (bytes .entry)) ⌝ }
 {
-    if revision(bytes) == 1 {
+    if word(bytes, FIRST_WORD) / REVISION_UNIT == 1 {
         return version_1(bytes);
     }
     version_2(bytes)
@@ -130,7 +95,7 @@ fn version_1(bytes: &[u8]) -> FileCapabilities
         attached: true,
         permitted: word(bytes, PERMITTED_LOW),
         inheritable: word(bytes, INHERITABLE_LOW),
-        effective: effective_bit(bytes),
+        effective: word(bytes, FIRST_WORD) % 2 == 1,
     }
 }
 
@@ -141,7 +106,7 @@ fn version_2(bytes: &[u8]) -> FileCapabilities
         attached: true,
         permitted: set_of(word(bytes, PERMITTED_LOW), word(bytes, PERMITTED_HIGH)),
         inheritable: set_of(word(bytes, INHERITABLE_LOW), word(bytes, INHERITABLE_HIGH)),
-        effective: effective_bit(bytes),
+        effective: word(bytes, FIRST_WORD) % 2 == 1,
     }
 }
 

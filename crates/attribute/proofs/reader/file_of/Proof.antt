@@ -5,8 +5,8 @@ use borrow.Author.Needs.{needs}
 use Rattle.attribute.proofs.reader.file_of.Statement.{statement}
 use Rattle.attribute.proofs.reader.file_of.Tie as tie
 
-revision-requires : tie.Need-revision-requires
-revision-requires c κs = search needs
+word-requires : tie.Need-word-requires
+word-requires c κs = search needs
 
 version-1-requires : tie.Need-version-1-requires
 version-1-requires c κs = search needs
@@ -17,7 +17,7 @@ returns c =
     simp (
       ← (c .version-1 .ensures),
       eq-eqb _ _ (c .before .if1 .taken),
-      ← (c .before .before .revision .ensures),
+      ← (c .before .before .word .ensures .0),
     )
 
 version-2-requires : tie.Need-version-2-requires
@@ -29,9 +29,9 @@ returns-2 c =
     simp (
       ← (c .version-2 .ensures),
       ne-eqb _ _ (c .before .if1 .left),
-      ← (c .before .before .revision .ensures),
+      ← (c .before .before .word .ensures .0),
     )
 
 pub file-of-spec : {M : Type 1} → statement M
 file-of-spec =
-    tie.close (tie.spec revision-requires version-1-requires returns version-2-requires returns-2)
+    tie.close (tie.spec word-requires version-1-requires returns version-2-requires returns-2)

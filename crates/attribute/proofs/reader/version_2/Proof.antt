@@ -22,14 +22,14 @@ word-requires-4 c κs = search needs
 set-of-requires-2 : tie.Need-set-of-requires-2
 set-of-requires-2 c κs = search needs
 
-effective-bit-requires : tie.Need-effective-bit-requires
-effective-bit-requires c κs = search needs
+word-requires-5 : tie.Need-word-requires-5
+word-requires-5 c κs = search needs
 
 returns : tie.Need-returns
 unfolding version2
 returns c =
     simp (
-      ← (c .effective-bit .ensures),
+      ← (c .word5 .ensures .0),
       ← (c .before .set-of2 .ensures),
       ← (c .before .before .word4 .ensures .0),
       ← (c .before .before .before .word3 .ensures .0),
@@ -48,5 +48,5 @@ version-2-spec =
     word-requires-3
     word-requires-4
     set-of-requires-2
-    effective-bit-requires
+    word-requires-5
     returns)
