@@ -49,7 +49,7 @@ otherLength s = not (eqb (length s) 12) && not (eqb (length s) 20)
 abbrev pub otherRevision : List ℕ → Bool
 otherRevision s = not (eqb (revision s) 1) && not (eqb (revision s) 2)
 
--- a revision's length
+-- the length of a revision: 12 bytes for 1, 20 for 2
 unfoldable pub lengthOf : ℕ → ℕ
 lengthOf version = cond (eqb version 1) 12 20
 
@@ -57,11 +57,11 @@ lengthOf version = cond (eqb version 1) 12 20
 abbrev pub lengthOfAnotherRevision : List ℕ → Bool
 lengthOfAnotherRevision s = not (eqb (length s) (lengthOf (revision s)))
 
--- unreadable: a bit of the first word between the effective bit and the revision
+-- unreadable: a bit of the first word between the effective bit and the revision (house rule)
 abbrev pub otherBits : List ℕ → Bool
 otherBits s = not (eqb (wordAt s 0 % 0x1000000 / 2) 0)
 
--- unreadable, and not to be written: a capability bit above 40 in either set
+-- unreadable, and refused by the writer: a capability bit above 40 in either set (house rule)
 abbrev pub bitsAbove40 : ℕ → ℕ → Bool
 bitsAbove40 p i = outside (union p i) full
 

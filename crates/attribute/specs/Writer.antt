@@ -1,5 +1,5 @@
 -- The written form of an attribute, version 2, and what the writer answers and leaves ("Attribute bytes", "What comes back").
--- Assumes nothing.
+-- A written form is of two sets and an effective bit: "none attached" has none. Assumes nothing.
 use Prim.Native.Nat.{ℕ, _/_, _%_}
 use mathlib.Core.Bool.{Bool, cond}
 use mathlib.Core.List.{List, _++_}
