@@ -52,7 +52,7 @@ fn show_reading(bytes: &[u8]) {
 }
 
 // Every length from 0 to 32 of zeros with revision 1, and with revision 2, in the fourth byte.
-pub fn read_lengths() {
+pub(crate) fn read_lengths() {
     let mut one = [0u8; 32];
     one[3] = 1;
     let mut two = [0u8; 32];
@@ -66,7 +66,7 @@ pub fn read_lengths() {
 }
 
 // The first words of version 1 and of version 2 with each of their 32 bits turned over.
-pub fn read_first_words() {
+pub(crate) fn read_first_words() {
     let mut k = 0u64;
     while k < 32 {
         let bit = sets::single(k);
@@ -79,7 +79,7 @@ pub fn read_first_words() {
 }
 
 // Version 2 with each of 64 bits in the permitted set alone, and in the inheritable set alone.
-pub fn read_set_bits() {
+pub(crate) fn read_set_bits() {
     let mut n = 0u64;
     while n < 64 {
         let bit = sets::single(n);
@@ -92,7 +92,7 @@ pub fn read_set_bits() {
 }
 
 // Whole attributes.
-pub fn read_whole() {
+pub(crate) fn read_whole() {
     show_reading(
         b"\x01\x00\x00\x02\x00\x20\x00\x00\x00\x00\x00\x00\x00\x00\x00\x00\x00\x00\x00\x00",
     );
@@ -119,7 +119,7 @@ fn show_writing(permitted: u64, inheritable: u64, effective: bool, buffer: &mut 
 }
 
 // Buffers of every length from 0 to 24, filled with aa.
-pub fn write_rooms() {
+pub(crate) fn write_rooms() {
     let mut n = 0;
     while n <= 24 {
         let mut buffer = [0xaau8; 24];
@@ -129,7 +129,7 @@ pub fn write_rooms() {
 }
 
 // Bits above 40, in either set, with room and without.
-pub fn write_refused() {
+pub(crate) fn write_refused() {
     let mut room = [0xaau8; 22];
     show_writing(0x200_0000_0000, 0, false, &mut room);
     show_writing(0, 0x200_0000_0000, true, &mut room);
@@ -146,7 +146,7 @@ pub fn write_refused() {
 }
 
 // Sets whose bytes all differ, and what was read from version 1.
-pub fn write_whole() {
+pub(crate) fn write_whole() {
     let mut room = [0xaau8; 21];
     show_writing(
         0x0123_4567_89ab % 0x200_0000_0000,

@@ -1,21 +1,21 @@
 // Lines of `key=value` words on standard output.
 use libc::STDOUT_FILENO;
 
-pub fn text(words: &[u8]) {
+pub(crate) fn text(words: &[u8]) {
     io::write_all(STDOUT_FILENO, words);
 }
 
-pub fn decimal(key: &[u8], value: u64) {
+pub(crate) fn decimal(key: &[u8], value: u64) {
     io::write_all(STDOUT_FILENO, key);
     io::print_decimal(STDOUT_FILENO, value);
 }
 
-pub fn hex(key: &[u8], value: u64, width: usize) {
+pub(crate) fn hex(key: &[u8], value: u64, width: usize) {
     io::write_all(STDOUT_FILENO, key);
     io::print_hex(STDOUT_FILENO, value, width);
 }
 
-pub fn flag(key: &[u8], value: bool) {
+pub(crate) fn flag(key: &[u8], value: bool) {
     io::write_all(STDOUT_FILENO, key);
     if value {
         io::write_all(STDOUT_FILENO, b"1");
@@ -25,7 +25,7 @@ pub fn flag(key: &[u8], value: bool) {
 }
 
 // Each byte as two digits.
-pub fn bytes(key: &[u8], value: &[u8]) {
+pub(crate) fn bytes(key: &[u8], value: &[u8]) {
     io::write_all(STDOUT_FILENO, key);
     let mut i = 0;
     while i < value.len() {

@@ -68,7 +68,7 @@ fn show_flags(securebits: u64, nnp: bool) {
 }
 
 // The effective set within the permitted one; the ambient set within both.
-pub fn sets() {
+pub(crate) fn sets() {
     show_sets(0, 0, 0, 0x1ff_ffff_ffff, 0);
     show_sets(
         0x1ff_ffff_ffff,
@@ -86,7 +86,7 @@ pub fn sets() {
 }
 
 // A bit above 40 in each set, with the other clauses kept.
-pub fn bits_above_40() {
+pub(crate) fn bits_above_40() {
     show_sets(0x200_0000_0000, 0, 0, 0, 0);
     show_sets(0, 0x200_0000_0000, 0, 0, 0);
     show_sets(0x200_0000_0000, 0, 0x200_0000_0000, 0, 0);
@@ -97,7 +97,7 @@ pub fn bits_above_40() {
 }
 
 // The largest ID, and one more, in each place.
-pub fn ids() {
+pub(crate) fn ids() {
     show_ids(4294967294, 4294967294, 4294967294, 4294967294);
     show_ids(0, 0, 0, 0);
     show_ids(4294967295, 0, 0, 0);
@@ -108,7 +108,7 @@ pub fn ids() {
 }
 
 // All securebits, and one more; no-new-privs is valid either way.
-pub fn securebits() {
+pub(crate) fn securebits() {
     show_flags(0xff, false);
     show_flags(0xff, true);
     show_flags(0x100, false);
