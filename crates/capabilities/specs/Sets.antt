@@ -1,5 +1,6 @@
 -- Capability sets ("What a thread carries"): a set is a number, and capability n is a member where bit n is 1.
--- Every definition here computes on numerals. Assumes nothing.
+-- Every definition here computes on numerals. That union, inter, minus, single and within mean what their names say, member by member,
+-- is proved in proofs/Membership.antt and proofs/Inclusion.antt. Assumes nothing.
 use Prim.Native.Nat.{ℕ, zero, _-_, _/_, _%_, _^_}
 use mathlib.Core.Path.{_≡_}
 use mathlib.Core.Bool.{Bool, true, cond, not}
