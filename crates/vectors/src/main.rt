@@ -1,5 +1,5 @@
 // Cases that are run and compared, beside those that are proved. The file stdout holds what document 01 gives for each,
-// worked out by hand; docs/VECTORS.md says what each group shows.
+// worked out from it and not from this program; docs/VECTORS.md says what each group shows.
 mod attributes;
 mod output;
 mod validity;
