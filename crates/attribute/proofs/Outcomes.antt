@@ -8,11 +8,7 @@ use lib.Dec.{ltb}
 use lib.ListN.{length, drop}
 use borrow.Author.Tests.{eqb-false, le-ltb, lt-ltb, ltb-false, ne-eqb}
 use Rattle.attribute.specs.Reader.{bitsAbove40}
-use Rattle.attribute.specs.Writer.{bufferAfter, refused, version2Bytes, written}
-use Rattle.attribute.specs.declared.Written.{Written}
-
-abbrev pub done : Written
-done = record { code = 0; length = 20 }
+use Rattle.attribute.specs.Writer.{bufferAfter, done, refused, version2Bytes, written}
 
 module _ (p i n : ℕ) where
   pub out-of-range : bitsAbove40 p i ≡ true → written p i n ≡ refused 22

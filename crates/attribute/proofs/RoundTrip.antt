@@ -10,13 +10,13 @@ use lib.Seq.{take-add, take-all, drop-drop}
 use borrow.Author.Tests.{eqb-true, eqb-false, not-false}
 use Rattle.attribute.specs.Words.{Bytes, byteAt, wordAt, wordBytes, setOf}
 use Rattle.attribute.specs.Reader.{bitsAbove40, fileOf, lengthOf, lengthOfAnotherRevision, otherBits, otherLength, otherRevision, reading, revision, unreadable, version1, version2}
-use Rattle.attribute.specs.Writer.{firstWord, version2Bytes, written}
+use Rattle.attribute.specs.Writer.{done, firstWord, version2Bytes, written}
 use Rattle.attribute.specs.RoundTrip.{asVersion2, WritesAs, RoundTrip}
 use Rattle.attribute.specs.declared.FileCapabilities.{FileCapabilities}
 use Rattle.attribute.specs.declared.Reading.{Reading}
 use Rattle.attribute.specs.declared.Written.{Written}
 use Rattle.attribute.specs.declared.Reading.the-variants.{File, Unreadable}
-use Rattle.attribute.proofs.Outcomes.{done, is-done, done-buffer}
+use Rattle.attribute.proofs.Outcomes.{is-done, done-buffer}
 use Rattle.attribute.proofs.ReadBack.{back}
 use Rattle.attribute.proofs.Words.{word-again, word-lt}
 
@@ -97,7 +97,7 @@ writes-as f h e =
     let answer : (old : List ℕ) → 20 ≤ length old → written (f .permitted) (f .inheritable) (length old) ≡ done =
     λ old k. is-done (f .permitted) (f .inheritable) (length old) h k in
     record {
-      done = answer;
+      answers = answer;
       leaves = λ old k.
           done-buffer (f .permitted) (f .inheritable) (f .effective) old (ap (λ (w : Written). w .code) (answer old k))
           ∙ ap (λ (t : List ℕ). t ++ drop 20 old) e;

@@ -7,7 +7,7 @@ use mathlib.Core.List.{List, [], _∷_, _++_}
 use lib.ListN.{length, take, drop, replicate}
 use Rattle.attribute.specs.Words.{Bytes, byteAt}
 use Rattle.attribute.specs.Reader.{reading}
-use Rattle.attribute.specs.Writer.{written, bufferAfter}
+use Rattle.attribute.specs.Writer.{done, written, bufferAfter}
 use Rattle.attribute.specs.declared.FileCapabilities.{FileCapabilities}
 use Rattle.attribute.specs.declared.Reading.the-variants.{File}
 
@@ -17,7 +17,7 @@ asVersion2 s = (byteAt s 0 ∷ 0 ∷ 0 ∷ 2 ∷ []) ++ drop 4 s ++ replicate 8 
 
 -- the writer, handed what was read, is not refused by a buffer of 20 bytes or more, and leaves these 20 bytes there
 pub record WritesAs (f : FileCapabilities) (bytes : List ℕ) : Type 0 where
-  pub done : (old : List ℕ) → 20 ≤ length old → written (f .permitted) (f .inheritable) (length old) ≡ record { code = 0; length = 20 }
+  pub answers : (old : List ℕ) → 20 ≤ length old → written (f .permitted) (f .inheritable) (length old) ≡ done
   pub leaves : (old : List ℕ) → 20 ≤ length old → bufferAfter (f .permitted) (f .inheritable) (f .effective) old ≡ bytes ++ drop 20 old
 
 pub record RoundTrip : Type 0 where

@@ -22,13 +22,17 @@ version2Bytes p i e =
     ++ wordBytes (p / 0x100000000)
     ++ wordBytes (i / 0x100000000)
 
+-- done: code 0, and 20 bytes written
+abbrev pub done : Written
+done = record { code = 0; length = 20 }
+
 -- a refusal: its number, and no byte written
 abbrev pub refused : ℕ → Written
 refused number = record { code = number; length = 0 }
 
--- the answer: 22 for a bit above 40, then 28 for a buffer under 20 bytes, else 0 and 20 bytes
+-- the answer: 22 for a bit above 40, then 28 for a buffer under 20 bytes, else done
 unfoldable pub written : ℕ → ℕ → ℕ → Written
-written p i room = cond (bitsAbove40 p i) (refused 22) (cond (ltb room 20) (refused 28) (record { code = 0; length = 20 }))
+written p i room = cond (bitsAbove40 p i) (refused 22) (cond (ltb room 20) (refused 28) done)
 
 -- the buffer afterwards: the 20 bytes and past them what was there; refused, all of what was there
 unfoldable pub bufferAfter : ℕ → ℕ → Bool → List ℕ → List ℕ

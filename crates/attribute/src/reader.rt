@@ -15,7 +15,6 @@ use crate::XATTR_CAPS_SZ_2;
 use capabilities::sets;
 ghost use mathlib.Core.Path.{_≡_};
 ghost use Prim.Native.Nat.{_≤_, _<_};
-ghost use lib.ListN.{length};
 ghost use Rattle.attribute.specs.Words.{byteAt, setOf, wordAt};
 ghost use Rattle.attribute.specs.Reader.{bitsAbove40, fileOf, lengthOf, reading, readingCode, unreadable, version1, version2};
 

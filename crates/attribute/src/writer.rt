@@ -12,7 +12,7 @@ use crate::Written;
 use crate::XATTR_CAPS_SZ_2;
 use crate::reader::has_bits_above_40;
 ghost use mathlib.Core.Path.{_≡_};
-ghost use Prim.Native.Nat.{_+_, _≤_, _<_};
+ghost use Prim.Native.Nat.{_+_, _≤_};
 ghost use lib.ListN.{length};
 ghost use lib.Seq.{sets};
 ghost use Rattle.attribute.specs.Words.{wordBytes};

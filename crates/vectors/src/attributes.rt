@@ -148,12 +148,7 @@ pub(crate) fn write_refused() {
 // Sets whose bytes all differ, and what was read from version 1.
 pub(crate) fn write_whole() {
     let mut room = [0xaau8; 21];
-    show_writing(
-        0x0123_4567_89ab % 0x200_0000_0000,
-        0x1ff_ffff_ffff,
-        false,
-        &mut room,
-    );
+    show_writing(0x123_4567_89ab, 0x1ff_ffff_ffff, false, &mut room);
     show_writing(0, 0, true, &mut room);
     show_writing(0, 0, false, &mut room);
     if let Reading::File(file) = attribute::read(

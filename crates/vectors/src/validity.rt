@@ -85,7 +85,7 @@ pub(crate) fn sets() {
     show_sets(0, 0x2000, 0, 0, 0);
 }
 
-// A bit above 40 in each set, with the other clauses kept.
+// A bit above 40 in each set, with the inclusions kept.
 pub(crate) fn bits_above_40() {
     show_sets(0x200_0000_0000, 0, 0, 0, 0);
     show_sets(0, 0x200_0000_0000, 0, 0, 0);
