@@ -1,0 +1,13 @@
+pub mod Fields
+pub mod Answers
+pub mod Launch
+pub mod Capset
+pub mod Bounding
+pub mod Ambient
+pub mod Securebits
+pub mod ThreadFlags
+pub mod Ids
+pub mod Decoding
+pub mod Call
+pub mod Run
+pub mod Cases

@@ -1,0 +1,73 @@
+// The rules of the eighteen calls: the types of a call and of its answer here, the definitions in specs/.
+//
+// There are no functions: the crate `calls` has the code that meets these rules. The crate assumes nothing.
+use credentials::Credentials;
+
+// What a call answers. A refusal leaves the credentials as they were.
+pub enum Answer {
+    Done { value: u64, after: Credentials },
+    NotPermitted,
+    InvalidArgument,
+    UnreadableAttribute,
+    InvalidCredentials,
+}
+
+// A call by its name, with the operands that it uses.
+pub enum Call {
+    Execve {
+        owner: u64,
+        flags: u64,
+    },
+    Capset {
+        permitted: u64,
+        inheritable: u64,
+        effective: u64,
+    },
+    BoundingDrop {
+        capability: u64,
+    },
+    BoundingRead {
+        capability: u64,
+    },
+    AmbientRaise {
+        capability: u64,
+    },
+    AmbientLower {
+        capability: u64,
+    },
+    AmbientIsSet {
+        capability: u64,
+    },
+    AmbientClearAll,
+    SetSecurebits {
+        bits: u64,
+    },
+    GetSecurebits,
+    SetKeepCaps {
+        on: bool,
+    },
+    GetKeepCaps,
+    SetNoNewPrivs,
+    GetNoNewPrivs,
+    Setuid {
+        id: u64,
+    },
+    Setreuid {
+        real: u64,
+        effective: u64,
+    },
+    Setresuid {
+        real: u64,
+        effective: u64,
+        saved: u64,
+    },
+    Setfsuid {
+        id: u64,
+    },
+}
+
+// A number, operands and an attribute as a call, or that they make none.
+pub enum Decoded {
+    Known(Call),
+    Unknown,
+}
