@@ -8,12 +8,12 @@ use lib.Dec.{eqb}
 use lib.ListN.{length, take, drop}
 use Rattle.capabilities.specs.Sets.{full, union, _⊆_}
 use Rattle.capabilities.proofs.Inclusion.{not-outside, union-sub-l, union-sub-r, full-lt}
-use Rattle.attribute.specs.Words.{wordAt, wordBytes, setOf}
+use Rattle.attribute.specs.Words.{Bytes, wordAt, wordBytes, setOf}
 use Rattle.attribute.specs.Reader.{bitsAbove40, fileOf, lengthOf, reading, unreadable, version2}
 use Rattle.attribute.specs.Writer.{firstWord, version2Bytes, written, bufferAfter}
 use Rattle.attribute.specs.declared.Reading.the-variants.{File}
 use Rattle.attribute.proofs.Outcomes.{done-facts, done-buffer}
-use Rattle.attribute.proofs.Words.{word-of-bytes}
+use Rattle.attribute.proofs.Words.{append-bytes, word-bytes, word-of-bytes}
 
 -- ---- the first word
 
@@ -74,12 +74,19 @@ module _ (p i : ℕ) (e : Bool) where
   unfolding version2Bytes wordBytes
   written-length = refl
 
-  read-back : bitsAbove40 p i ≡ false → reading (version2Bytes p i e) ≡ File (record { attached = true; permitted = p; inheritable = i; effective = e })
+  -- the written form itself reads back
+  pub read-back : bitsAbove40 p i ≡ false → reading (version2Bytes p i e) ≡ File (record { attached = true; permitted = p; inheritable = i; effective = e })
   unfolding reading unreadable fileOf version2 lengthOf
   read-back h =
       let k : union p i ⊆ full = not-outside (union p i) full h in
       simp
       (written-length, word-0, word-4, word-8, word-12 (union-sub-l p i k), word-16 (union-sub-r p i k), first-revision, first-other-bits, first-effective, halves, h)
+
+  -- its elements are bytes
+  pub written-bytes : Bytes (version2Bytes p i e)
+  unfolding version2Bytes
+  written-bytes =
+      append-bytes _ _ (append-bytes _ _ (append-bytes _ _ (append-bytes _ _ (word-bytes _) (word-bytes _)) (word-bytes _)) (word-bytes _)) (word-bytes _)
 
   first-twenty : (t : List ℕ) → take 20 (version2Bytes p i e ++ t) ≡ version2Bytes p i e
   unfolding version2Bytes wordBytes

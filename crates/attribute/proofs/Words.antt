@@ -1,7 +1,7 @@
 -- Words and their bytes. Assumes nothing.
-use Prim.Native.Nat.{ℕ, suc, _+_, _*_, _/_, _%_, _≤_, _<_}
+use Prim.Native.Nat.{ℕ, zero, suc, _+_, _*_, _/_, _%_, _≤_, _<_}
 use mathlib.Core.Path.{_≡_, sym, _∙_}
-use mathlib.Core.List.{List, [], _∷_}
+use mathlib.Core.List.{List, [], _∷_, _++_}
 use native.Mathlib.Omega.{arith}
 use lib.ListN.{length, take, drop}
 use lib.Seq.{drop-cons}
@@ -67,3 +67,23 @@ module _ (s : List ℕ) (b : Bytes s) (at : ℕ) where
   pub word-lt : wordAt s at < 0x100000000
   unfolding wordAt
   word-lt = omega (arith, b .small at, b .small (at + 1), b .small (at + 2), b .small (at + 3))
+
+-- ---- lists that are bytes
+
+no-bytes : Bytes []
+no-bytes = record { small = λ at. omega arith }
+
+one-more : (x : ℕ) (s : List ℕ) → x < 256 → Bytes s → Bytes (x ∷ s)
+one-more x s h b = record { small = small-at }
+  where
+    small-at : (at : ℕ) → byteAt (x ∷ s) at < 256
+    small-at zero = h
+    small-at (suc at) = b .small at
+
+pub append-bytes : (s t : List ℕ) → Bytes s → Bytes t → Bytes (s ++ t)
+append-bytes [] t b d = d
+append-bytes (x ∷ s) t b d = one-more x (s ++ t) (b .small 0) (append-bytes s t (record { small = λ at. b .small (suc at) }) d)
+
+pub word-bytes : (w : ℕ) → Bytes (wordBytes w)
+unfolding wordBytes
+word-bytes w = one-more _ _ (omega arith) (one-more _ _ (omega arith) (one-more _ _ (omega arith) (one-more _ _ (omega arith) no-bytes)))

@@ -11,3 +11,4 @@ pub mod Decoding
 pub mod Call
 pub mod Run
 pub mod Cases
+pub mod Demand3

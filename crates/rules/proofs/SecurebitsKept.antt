@@ -1,0 +1,167 @@
+-- What each rule keeps of the securebits. Assumes nothing.
+use Prim.Native.Nat.{ℕ, suc, _≤_, _<_}
+use mathlib.Core.Path.{_≡_, refl, sym, ap, _∙_, subst}
+use mathlib.Core.Bool.{Bool, true, false, cond, not, _||_, true≢false}
+use mathlib.Core.List.{[], _∷_}
+use native.Mathlib.Omega.{arith}
+use lib.Dec.{eqb}
+use borrow.Author.Tests.{eqb-false, eqb-true, ne-eqb, not-false, not-true}
+use Rattle.capabilities.specs.Sets.{has, union, inter, minus, single, _∈_, _⊆_}
+use Rattle.capabilities.proofs.Membership.{has-suc}
+use Rattle.capabilities.proofs.Inclusion.{agree, agrees, in-inter, in-is, inter-l, inter-r, inter-sub-l, inter-sub-r, minus-le, none-sub, not-outside, single-is, single-sub, sub-antisymm, sub-in, sub-inter, sub-refl, sub-trans, sub-union-l, union-lt, within-sub}
+use Rattle.capabilities.proofs.Solve.{var, none, _∪_, _∩_, _∖_, solve}
+use Rattle.credentials.specs.Securebits.{SECBIT-NOROOT, SECBIT-NO-SETUID-FIXUP, SECBIT-KEEP-CAPS, SECBIT-NO-CAP-AMBIENT-RAISE, lockOf}
+use Rattle.rules.specs.Fields.{isSet}
+use Rattle.rules.specs.Securebits.{allLocks, locksSet, lockedFlags, changesLocked, undoesLock}
+use Rattle.rules.specs.ThreadFlags.{withKeepCaps}
+use Rattle.rules.specs.Demand3.{LockedStays}
+
+-- launched: the step is a launch that was done
+pub record BitsKept (launched : Bool) (b d : ℕ) : Type 0 where
+  pub small : d ≤ 255
+  pub locks-stay : locksSet b ⊆ d
+  pub noroot : LockedStays SECBIT-NOROOT b d
+  pub no-setuid-fixup : LockedStays SECBIT-NO-SETUID-FIXUP b d
+  pub no-cap-ambient-raise : LockedStays SECBIT-NO-CAP-AMBIENT-RAISE b d
+  pub keep-caps : isSet b (lockOf SECBIT-KEEP-CAPS) ≡ true → isSet d SECBIT-KEEP-CAPS ≡ cond launched false (isSet b SECBIT-KEEP-CAPS)
+
+-- ---- flags
+
+-- bits that agree on a flag
+same-flag : (b d flag : ℕ) → inter d flag ≡ inter b flag → isSet d flag ≡ isSet b flag
+same-flag b d flag e = ap (λ (x : ℕ). not (eqb x 0)) e
+
+-- a flag that is set stays set in bits that have it too
+still-set : (b d flag : ℕ) → inter b flag ⊆ d → isSet b flag ≡ true → isSet d flag ≡ true
+still-set b d flag h s =
+    ap not (ne-eqb (inter d flag) 0 (λ e. eqb-false (inter b flag) 0 (not-true _ s)
+    (sub-antisymm (subst (λ (x : ℕ). inter b flag ⊆ x) e (sub-inter h (inter-sub-r b sub-refl))) none-sub)))
+
+-- a flag of one bit that is set is a member
+set-member : (b n : ℕ) → n < 64 → isSet b (single n) ≡ true → n ∈ b
+set-member b n l s = in-is (known (has b n) refl)
+  where
+    none-there : has b n ≡ false → inter b (single n) ⊆ 0
+    none-there h = record {
+      all! = λ m k. absurd (true≢false (sym (subst (λ (x : ℕ). has b x ≡ true) (single-is n m l (inter-r b (single n) k)) (inter-l b (single n) k .is!)) ∙ h));
+    }
+
+    known : (t : Bool) → has b n ≡ t → has b n ≡ true
+    known true e = e
+    known false e = absurd (eqb-false (inter b (single n)) 0 (not-true _ s) (sub-antisymm (none-there e) none-sub))
+
+-- a flag whose lock is set is among the locked ones
+locked-flag : (b n : ℕ) → suc n < 64 → suc n ∈ allLocks → isSet b (single (suc n)) ≡ true → single n ⊆ lockedFlags b
+locked-flag b n l k s =
+    single-sub (omega arith) (in-is (sym (has-suc (locksSet b) n) ∙ in-inter (set-member b (suc n) l s) k .is!))
+
+-- bits that agree on the locked flags agree on each of them
+agree-on : (b d flag : ℕ) → flag ⊆ lockedFlags b → changesLocked b d ≡ false → isSet d flag ≡ isSet b flag
+unfolding changesLocked
+agree-on b d flag h e =
+    same-flag b d flag (sym (agree b d flag (λ n m. agrees b d (lockedFlags b) (eqb-true _ _ (not-false _ e)) n (sub-in h m))))
+
+-- ---- nothing changes, and one change after another
+
+pub bits-same : {b : ℕ} → b ≤ 255 → BitsKept false b b
+bits-same h =
+    record {
+      small = h;
+      locks-stay = inter-sub-l _ sub-refl;
+      noroot = λ l. refl;
+      no-setuid-fixup = λ l. refl;
+      no-cap-ambient-raise = λ l. refl;
+      keep-caps = λ l. refl;
+    }
+
+lock-stays : {x : Bool} {b d : ℕ} (lock : ℕ) → lock ⊆ allLocks → BitsKept x b d → isSet b lock ≡ true → isSet d lock ≡ true
+lock-stays {x} {b} {d} lock h k = still-set b d lock (sub-trans (sub-inter {b = b} {c = allLocks} (inter-sub-l lock sub-refl) (inter-sub-r b h)) (k .locks-stay))
+
+pub bits-then : {x y : Bool} {b d e : ℕ} → BitsKept x b d → BitsKept y d e → BitsKept (x || y) b e
+bits-then {x} {y} {b} {d} {e} h k =
+    record {
+      small = k .small;
+      locks-stay = sub-trans (sub-inter (h .locks-stay) (inter-sub-r b sub-refl)) (k .locks-stay);
+      noroot = λ l. k .noroot (lock-stays 2 (within-sub 2 allLocks refl) h l) ∙ h .noroot l;
+      no-setuid-fixup = λ l. k .no-setuid-fixup (lock-stays 8 (within-sub 8 allLocks refl) h l) ∙ h .no-setuid-fixup l;
+      no-cap-ambient-raise = λ l. k .no-cap-ambient-raise (lock-stays 128 (within-sub 128 allLocks refl) h l) ∙ h .no-cap-ambient-raise l;
+      keep-caps = λ l. k .keep-caps (lock-stays 32 (within-sub 32 allLocks refl) h l)
+          ∙ ap (cond y false) (h .keep-caps l) ∙ either x y (isSet b SECBIT-KEEP-CAPS);
+    }
+  where
+    either : (x y z : Bool) → cond y false (cond x false z) ≡ cond (x || y) false z
+    either true true z = refl
+    either true false z = refl
+    either false true z = refl
+    either false false z = refl
+
+-- ---- the calls
+
+-- call 9
+pub bits-set : (b d : ℕ) → d ≤ 255 → undoesLock b d ≡ false → changesLocked b d ≡ false → BitsKept false b d
+unfolding single has
+bits-set b d l u e =
+    record {
+      small = l;
+      locks-stay = not-outside (locksSet b) d u;
+      noroot = λ s. agree-on b d 1 (locked-flag b 0 (omega arith) (in-is refl) s) e;
+      no-setuid-fixup = λ s. agree-on b d 4 (locked-flag b 2 (omega arith) (in-is refl) s) e;
+      no-cap-ambient-raise = λ s. agree-on b d 64 (locked-flag b 6 (omega arith) (in-is refl) s) e;
+      keep-caps = λ s. agree-on b d 16 (locked-flag b 4 (omega arith) (in-is refl) s) e;
+    }
+
+-- KEEP_CAPS cleared: no lock and no other flag is touched
+clear-keeps : (b m : ℕ) → minus m SECBIT-KEEP-CAPS ≡ m → inter (minus b SECBIT-KEEP-CAPS) m ≡ inter b m
+clear-keeps b m e =
+    solve (b ∷ m ∷ SECBIT-KEEP-CAPS ∷ []) ((var 0 ∖ var 2) ∩ var 1) (var 0 ∩ (var 1 ∖ var 2)) refl ∙ ap (inter b) e
+
+clear-locks : (b : ℕ) → locksSet b ⊆ minus b SECBIT-KEEP-CAPS
+unfolding minus
+clear-locks b = subst (λ (x : ℕ). x ⊆ minus b SECBIT-KEEP-CAPS) (clear-keeps b allLocks refl) (inter-sub-l allLocks sub-refl)
+
+clear-clears : (b : ℕ) → isSet (minus b SECBIT-KEEP-CAPS) SECBIT-KEEP-CAPS ≡ false
+clear-clears b = ap (λ (x : ℕ). not (eqb x 0)) (solve (b ∷ SECBIT-KEEP-CAPS ∷ []) ((var 0 ∖ var 1) ∩ var 1) none refl)
+
+-- call 1
+pub bits-launched : (b : ℕ) → b ≤ 255 → BitsKept true b (minus b SECBIT-KEEP-CAPS)
+unfolding minus
+bits-launched b h =
+    record {
+      small = omega (arith, minus-le b SECBIT-KEEP-CAPS);
+      locks-stay = clear-locks b;
+      noroot = λ s. same-flag b (minus b SECBIT-KEEP-CAPS) 1 (clear-keeps b 1 refl);
+      no-setuid-fixup = λ s. same-flag b (minus b SECBIT-KEEP-CAPS) 4 (clear-keeps b 4 refl);
+      no-cap-ambient-raise = λ s. same-flag b (minus b SECBIT-KEEP-CAPS) 64 (clear-keeps b 64 refl);
+      keep-caps = λ s. clear-clears b;
+    }
+
+-- KEEP_CAPS set: likewise
+raise-keeps : (b m : ℕ) → inter SECBIT-KEEP-CAPS m ≡ 0 → inter (union b SECBIT-KEEP-CAPS) m ≡ inter b m
+raise-keeps b m e =
+    solve (b ∷ m ∷ SECBIT-KEEP-CAPS ∷ []) ((var 0 ∪ var 2) ∩ var 1) ((var 0 ∩ var 1) ∪ (var 2 ∩ var 1)) refl ∙ ap (union (inter b m)) e
+    ∙ solve (b ∷ m ∷ []) ((var 0 ∩ var 1) ∪ none) (var 0 ∩ var 1) refl
+
+-- call 11, where KEEP_CAPS is not locked
+pub bits-keep-caps : (b : ℕ) (on : Bool) → b ≤ 255 → isSet b (lockOf SECBIT-KEEP-CAPS) ≡ false → BitsKept false b (withKeepCaps b on)
+unfolding withKeepCaps minus
+bits-keep-caps b true h u =
+    record {
+      small = small-union;
+      locks-stay = inter-sub-l {a = b} allLocks (sub-union-l SECBIT-KEEP-CAPS sub-refl);
+      noroot = λ s. same-flag b (union b SECBIT-KEEP-CAPS) 1 (raise-keeps b 1 refl);
+      no-setuid-fixup = λ s. same-flag b (union b SECBIT-KEEP-CAPS) 4 (raise-keeps b 4 refl);
+      no-cap-ambient-raise = λ s. same-flag b (union b SECBIT-KEEP-CAPS) 64 (raise-keeps b 64 refl);
+      keep-caps = λ s. absurd (true≢false (sym s ∙ u));
+    }
+  where
+    small-union : union b SECBIT-KEEP-CAPS ≤ 255
+    small-union = let l : union b SECBIT-KEEP-CAPS < 256 = union-lt 8 b SECBIT-KEEP-CAPS (omega arith) (omega arith) in omega arith
+bits-keep-caps b false h u =
+    record {
+      small = omega (arith, minus-le b SECBIT-KEEP-CAPS);
+      locks-stay = clear-locks b;
+      noroot = λ s. same-flag b (minus b SECBIT-KEEP-CAPS) 1 (clear-keeps b 1 refl);
+      no-setuid-fixup = λ s. same-flag b (minus b SECBIT-KEEP-CAPS) 4 (clear-keeps b 4 refl);
+      no-cap-ambient-raise = λ s. same-flag b (minus b SECBIT-KEEP-CAPS) 64 (clear-keeps b 64 refl);
+      keep-caps = λ s. absurd (true≢false (sym s ∙ u));
+    }
