@@ -14,7 +14,7 @@ use Rattle.credentials.proofs.Valid.{Valid, facts-valid, valid-facts}
 use Rattle.rules.specs.Call.{answer}
 use Rattle.rules.specs.Run.{Result, Step, lastOf, left, result, run}
 use Rattle.rules.specs.Demand3.{Demand3, OneLaunch, launchDone, reach}
-use Rattle.rules.proofs.CallsKept.{Kept, answer-keeps, kept-by, nothing-changes, one-after-another, still-valid}
+use Rattle.rules.proofs.KeptCalls.{Kept, answer-keeps, kept-by, nothing-changes, one-after-another, still-valid}
 use Rattle.rules.proofs.OneLaunch.{one-launch}
 
 -- ---- runs
@@ -22,7 +22,7 @@ use Rattle.rules.proofs.OneLaunch.{one-launch}
 one-each : (start : Credentials) (steps : List Step) → length (run start steps) ≡ length steps
 unfolding run
 one-each start [] = refl
-one-each start (x ∷ xs) = ap suc (one-each (result start x .after) xs)
+one-each start (x ∷ xs) = ap suc (one-each _ xs)
 
 run-append : (start : Credentials) (before rest : List Step) → run start (before ++ rest) ≡ run start before ++ run (left start before) rest
 unfolding run lastOf

@@ -1,7 +1,7 @@
 pub mod Cases
 pub mod Conditions
-pub mod SecurebitsKept
-pub mod SetsKept
-pub mod CallsKept
+pub mod KeptSets
+pub mod KeptSecurebits
+pub mod KeptCalls
 pub mod OneLaunch
 pub mod Demand3

@@ -44,6 +44,11 @@ setuidAllowed any u id = any || eqb id (u .real) || eqb id (u .saved)
 unfoldable pub setuidIds : Bool → Ids → ℕ → Ids
 setuidIds any u id = record { real = cond any id (u .real); effective = id; saved = cond any id (u .saved); filesystem = id }
 
+-- setreuid, without SETUID: real goes to real or effective, and effective to one of the three
+unfoldable pub setreuidAllowed : Bool → Ids → Ids → Bool
+setreuidAllowed any u new =
+    any || (eqb (new .real) (u .real) || eqb (new .real) (u .effective)) && oneOfThree u (new .effective)
+
 -- setreuid: the saved ID moves where real is given, or effective is given and is not the old real
 abbrev pub setreuidSaves : Ids → ℕ → ℕ → Bool
 setreuidSaves u r e = isGiven r || isGiven e && not (eqb e (u .real))
@@ -62,10 +67,9 @@ setreuidIds u r e =
       filesystem = givenOr (u .effective) e;
     }
 
--- setreuid, without SETUID: real goes to real or effective, and effective to one of the three
-unfoldable pub setreuidAllowed : Bool → Ids → Ids → Bool
-setreuidAllowed any u new =
-    any || (eqb (new .real) (u .real) || eqb (new .real) (u .effective)) && oneOfThree u (new .effective)
+-- setresuid, without SETUID: each goes to one of the three
+unfoldable pub setresuidAllowed : Bool → Ids → Ids → Bool
+setresuidAllowed any u new = any || oneOfThree u (new .real) && oneOfThree u (new .effective) && oneOfThree u (new .saved)
 
 -- setresuid: the three IDs that are given, and the filesystem ID is the effective one
 unfoldable pub setresuidIds : Ids → ℕ → ℕ → ℕ → Ids
@@ -76,10 +80,6 @@ setresuidIds u r e s =
       saved = givenOr (u .saved) s;
       filesystem = givenOr (u .effective) e;
     }
-
--- setresuid, without SETUID: each goes to one of the three
-unfoldable pub setresuidAllowed : Bool → Ids → Ids → Bool
-setresuidAllowed any u new = any || oneOfThree u (new .real) && oneOfThree u (new .effective) && oneOfThree u (new .saved)
 
 -- setfsuid: changes to any of the four, or with SETUID to any that is given
 unfoldable pub setfsuidChanges : Bool → Ids → ℕ → Bool

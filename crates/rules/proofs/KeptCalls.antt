@@ -35,8 +35,8 @@ use Rattle.rules.specs.declared.Answer.the-variants.{Done, InvalidArgume
 use Rattle.rules.specs.declared.Call.{Call}
 use Rattle.rules.specs.declared.Decoded.{Decoded}
 use Rattle.rules.proofs.Conditions.{cond-cases, cond-with, or-false-l, or-false-r}
-use Rattle.rules.proofs.SetsKept.{SetsKept, kept-after, kept-after-filesystem, kept-ambient, kept-bounding, kept-capset, kept-launched, kept-same, kept-then, kept-valid}
-use Rattle.rules.proofs.SecurebitsKept.{BitsKept, bits-keep-caps, bits-launched, bits-same, bits-set, bits-then}
+use Rattle.rules.proofs.KeptSets.{SetsKept, kept-after, kept-after-filesystem, kept-ambient, kept-bounding, kept-capset, kept-launched, kept-same, kept-then, kept-valid}
+use Rattle.rules.proofs.KeptSecurebits.{BitsKept, bits-keep-caps, bits-launched, bits-same, bits-set, bits-then}
 
 -- the credentials d later, after the credentials c; launched: by way of a launch that was done
 pub record Kept (launched : Bool) (c d : Credentials) : Type 0 where
