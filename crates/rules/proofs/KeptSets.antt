@@ -208,6 +208,6 @@ kept-launched {s} f a h =
     from-file : gained s f ⊆ reach s
     from-file = union-sub (inter-sub-l (f .inheritable) (inheritable-reach s)) (inter-sub-r (f .permitted) (bounding-reach s))
 
-    effective : launchedEffective s f a ⊆ launchedPermitted s f a
+    effective : launchedEffective (f .effective) (launchedPermitted s f a) a ⊆ launchedPermitted s f a
     effective =
         cond-cases (λ (x : ℕ). x ⊆ launchedPermitted s f a) (f .effective) _ _ (λ e. sub-refl) (λ e. sub-union-r (gained s f) sub-refl)

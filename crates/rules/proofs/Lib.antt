@@ -1,5 +1,6 @@
 pub mod Cases
 pub mod Conditions
+pub mod FilesystemId
 pub mod KeptSets
 pub mod KeptSecurebits
 pub mod KeptCalls

@@ -104,9 +104,9 @@ gained s f = union (inter (s .inheritable) (f .inheritable)) (inter (f .permitte
 abbrev pub launchedPermitted : Sets → FileCapabilities → ℕ → ℕ
 launchedPermitted s f a = union (gained s f) a
 
--- e: the effective set is all of that with the bit on, and else the ambient set
-unfoldable pub launchedEffective : Sets → FileCapabilities → ℕ → ℕ
-launchedEffective s f a = cond (f .effective) (launchedPermitted s f a) a
+-- e: the effective set is the new permitted set with the bit on, and else the new ambient set
+unfoldable pub launchedEffective : Bool → ℕ → ℕ → ℕ
+launchedEffective on p a = cond on p a
 
 -- e: the inheritable and the bounding set stay
 unfoldable pub launchedSets : Sets → FileCapabilities → ℕ → Sets
@@ -114,7 +114,7 @@ launchedSets s f a =
     record {
       permitted = launchedPermitted s f a;
       inheritable = s .inheritable;
-      effective = launchedEffective s f a;
+      effective = launchedEffective (f .effective) (launchedPermitted s f a) a;
       bounding = s .bounding;
       ambient = a;
     }
