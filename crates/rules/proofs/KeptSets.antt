@@ -194,7 +194,7 @@ module _ (old new : Ids) where
 -- ---- a launch, whatever the file's sets
 
 pub kept-launched : {s : Sets} (f : FileCapabilities) (a : ℕ) → a ⊆ s .inheritable → SetsKept s (launchedSets s f a)
-unfolding launchedSets launchedEffective
+unfolding launchedSets launchedEffective gained
 kept-launched {s} f a h =
     record {
       effective-permitted = effective;

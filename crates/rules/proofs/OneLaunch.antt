@@ -21,7 +21,7 @@ use Rattle.credentials.specs.declared.Sets.{Sets}
 use Rattle.credentials.specs.declared.Credentials.{Credentials}
 use Rattle.credentials.proofs.Valid.{Valid, valid-facts}
 use Rattle.rules.specs.Answers.{code, after}
-use Rattle.rules.specs.Launch.{counted, countedSet, fallsShort, fileRead, ignoresAttribute, ignoresSetId, launch, launched, launchedSets, rootCounts}
+use Rattle.rules.specs.Launch.{counted, countedSet, fallsShort, fileRead, gained, ignoresAttribute, ignoresSetId, launch, launched, launchedSets, rootCounts}
 use Rattle.rules.specs.Decoding.{decode, known}
 use Rattle.rules.specs.Call.{answer}
 use Rattle.rules.specs.Run.{result}
@@ -59,7 +59,7 @@ module _ (n : ℕ) (l : n ∈ full) where
 
   launched-has : (s : Sets) (f : FileCapabilities) (a : ℕ) → n ∈ f .permitted → n ∈ f .inheritable → n ∈ union (s .inheritable) (s .bounding)
       → n ∈ launchedSets s f a .permitted
-  unfolding launchedSets
+  unfolding launchedSets gained
   launched-has s f a p i h =
       in-union-l a
       (union-cases (s .inheritable) (s .bounding) h

@@ -97,7 +97,7 @@ unfoldable pub launchedAmbient : Bool → ℕ → FileCapabilities → ℕ → �
 launchedAmbient nnp flags f a = cond (isPrivileged nnp flags f) 0 a
 
 -- e and f: what a file gives: what is inheritable in both, and what it permits within the bounding set
-abbrev pub gained : Sets → FileCapabilities → ℕ
+unfoldable pub gained : Sets → FileCapabilities → ℕ
 gained s f = union (inter (s .inheritable) (f .inheritable)) (inter (f .permitted) (s .bounding))
 
 -- e: the permitted set, from the file as it counts and the new ambient set

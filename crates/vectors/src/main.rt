@@ -2,6 +2,7 @@
 // worked out from it and not from this program; docs/VECTORS.md says what each group shows.
 mod attributes;
 mod output;
+mod rows;
 mod validity;
 
 fn main() {
@@ -16,4 +17,5 @@ fn main() {
     validity::bits_above_40();
     validity::ids();
     validity::securebits();
+    rows::show_all();
 }

@@ -1,0 +1,27 @@
+-- `calls::launch::counted` meets its contract. Assumes nothing.
+use Rattle.rules.specs.Launch.{counted}
+use borrow.Author.Needs.{needs}
+use Rattle.calls.proofs.launch.counted.Statement.{statement}
+use Rattle.calls.proofs.launch.counted.Tie as tie
+
+root-counts-requires : tie.Need-root-counts-requires
+root-counts-requires c κs = search needs
+
+counted-set-requires : tie.Need-counted-set-requires
+counted-set-requires c κs = search needs
+
+counted-set-requires-2 : tie.Need-counted-set-requires-2
+counted-set-requires-2 c κs = search needs
+
+returns : tie.Need-returns
+unfolding counted
+returns c =
+    simp (
+      ← (c .before .before .counted-set2 .ensures),
+      ← (c .before .before .before .counted-set .ensures),
+      ← (c .before .before .before .before .root-counts .ensures),
+    )
+
+pub counted-spec : {M : Type 1} → statement M
+counted-spec =
+    tie.close (tie.spec root-counts-requires counted-set-requires counted-set-requires-2 returns)

@@ -1,0 +1,22 @@
+-- `calls::launch::falls_short` meets its contract. Assumes nothing.
+use Rattle.rules.specs.Launch.{fallsShort}
+use borrow.Author.Needs.{needs}
+use Rattle.calls.proofs.launch.falls_short.Statement.{statement}
+use Rattle.calls.proofs.launch.falls_short.Tie as tie
+
+gained-requires : tie.Need-gained-requires
+gained-requires c κs = search needs
+
+outside-requires : tie.Need-outside-requires
+outside-requires c κs = search needs
+
+returns : tie.Need-returns
+unfolding fallsShort
+returns c =
+    simp (
+      ← (c .before .outside .ensures),
+      ← (c .before .before .gained .ensures),
+    )
+
+pub falls-short-spec : {M : Type 1} → statement M
+falls-short-spec = tie.close (tie.spec gained-requires outside-requires returns)

@@ -1,0 +1,15 @@
+-- `calls::launch::launched_ids` meets its contract. Assumes nothing.
+use Rattle.rules.specs.Launch.{launchedIds}
+use borrow.Author.Needs.{needs}
+use Rattle.calls.proofs.launch.launched_ids.Statement.{statement}
+use Rattle.calls.proofs.launch.launched_ids.Tie as tie
+
+effective-id-requires : tie.Need-effective-id-requires
+effective-id-requires c κs = search needs
+
+returns : tie.Need-returns
+unfolding launchedIds
+returns c = simp (← (c .effective-id .ensures))
+
+pub launched-ids-spec : {M : Type 1} → statement M
+launched-ids-spec = tie.close (tie.spec effective-id-requires returns)

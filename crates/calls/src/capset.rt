@@ -1,0 +1,38 @@
+// capset(2), call 2.
+use capabilities::header::CAP_SETPCAP;
+use capabilities::sets;
+use credentials::Credentials;
+use rules::Answer;
+ghost use mathlib.Core.Path.{_≡_};
+ghost use Rattle.rules.specs.Capset.{capset};
+
+// The new sets, if the four tests allow them. The ambient set loses what left the permitted or the inheritable one.
+pub(crate) fn capset(start: Credentials, permitted: u64, inheritable: u64, effective: u64) -> Answer
+    ensures { λ r. ⌜ r ≡ capset start permitted inheritable effective ⌝ }
+{
+    let held = start.sets;
+    if sets::lacks(held.effective, CAP_SETPCAP)
+        & sets::outside(inheritable, held.inheritable | held.permitted)
+    {
+        return Answer::NotPermitted;
+    }
+    if sets::outside(inheritable, held.inheritable | held.bounding) {
+        return Answer::NotPermitted;
+    }
+    if sets::outside(permitted, held.permitted) {
+        return Answer::NotPermitted;
+    }
+    if sets::outside(effective, permitted) {
+        return Answer::NotPermitted;
+    }
+    let ambient = held.ambient & permitted & inheritable;
+    let mut next = start;
+    next.sets.permitted = permitted;
+    next.sets.inheritable = inheritable;
+    next.sets.effective = effective;
+    next.sets.ambient = ambient;
+    Answer::Done {
+        value: 0,
+        after: next,
+    }
+}

@@ -1,0 +1,65 @@
+-- `vectors::rows::hex` is safe and ends. Assumes nothing.
+use Prim.Native.Nat.{_-_, _≤_}
+use lib.ListN.{length}
+use borrow.Author.Needs.{needs}
+use Rattle.vectors.proofs.rows.hex.Statement.{statement}
+use Rattle.vectors.proofs.rows.hex.Tie as tie
+use Rattle.vectors.proofs.rows.digit.Reads as digit-reads
+use Rattle.vectors.proofs.rows.value_start.Reads as value-start-reads
+
+abbrev Inv-loop : tie.InvT-loop
+Inv-loop row from at₀ value₀ at value = at₀ ≤ at
+
+abbrev μ-loop : tie.MeasureT-loop
+μ-loop row from at₀ value₀ at value = length row - at
+
+value-start-requires : tie.Need-value-start-requires Inv-loop μ-loop
+value-start-requires c κs = search needs
+
+loop-holds : tie.Need-loop-holds Inv-loop μ-loop
+loop-holds c = search needs
+
+shared-slice-read-digit : tie.Need-shared-slice-read-digit Inv-loop μ-loop
+shared-slice-read-digit c = search needs
+
+digit-requires : tie.Need-digit-requires Inv-loop μ-loop
+digit-requires c κs = search needs
+
+returns : tie.Need-returns Inv-loop μ-loop
+returns c = search needs
+
+mul-value : tie.Need-mul-value Inv-loop μ-loop
+mul-value c = search needs
+
+add-value : tie.Need-add-value Inv-loop μ-loop
+add-value c = search needs
+
+add-at : tie.Need-add-at Inv-loop μ-loop
+add-at c = search needs
+
+loop-less : tie.Need-loop-less Inv-loop μ-loop
+loop-less c = search needs
+
+loop-again : tie.Need-loop-again Inv-loop μ-loop
+loop-again c = search needs
+
+returns-2 : tie.Need-returns-2 Inv-loop μ-loop
+returns-2 c = search needs
+
+pub hex-spec : {M : Type 1} → statement M
+hex-spec =
+    tie.close
+    (tie.spec
+    Inv-loop
+    μ-loop
+    value-start-requires
+    loop-holds
+    shared-slice-read-digit
+    digit-requires
+    returns
+    mul-value
+    add-value
+    add-at
+    loop-less
+    loop-again
+    returns-2)
