@@ -6,7 +6,7 @@ use Rattle.calls.proofs.ambient.ambient_is_set.Statement.{statement}
 use Rattle.calls.proofs.ambient.ambient_is_set.Tie as tie
 
 has-requires : tie.Need-has-requires
-has-requires c κs = search needs
+has-requires c κs = tt
 
 cast-t4 : tie.Need-cast-t4
 cast-t4 c = search needs

@@ -1,14 +1,13 @@
 -- `calls::ambient::ambient_lower` meets its contract. Assumes nothing.
 use Rattle.rules.specs.Ambient.{ambientLower}
-use borrow.Author.Needs.{needs}
 use Rattle.calls.proofs.ambient.ambient_lower.Statement.{statement}
 use Rattle.calls.proofs.ambient.ambient_lower.Tie as tie
 
 single-requires : tie.Need-single-requires
-single-requires c κs = search needs
+single-requires c κs = tt
 
 difference-requires : tie.Need-difference-requires
-difference-requires c κs = search needs
+difference-requires c κs = tt
 
 returns : tie.Need-returns
 unfolding ambientLower

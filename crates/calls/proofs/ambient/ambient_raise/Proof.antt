@@ -1,15 +1,14 @@
 -- `calls::ambient::ambient_raise` meets its contract. Assumes nothing.
 use Rattle.rules.specs.Ambient.{ambientRaise}
 use borrow.Author.Tests.{eq-eqb, ne-eqb}
-use borrow.Author.Needs.{needs}
 use Rattle.calls.proofs.ambient.ambient_raise.Statement.{statement}
 use Rattle.calls.proofs.ambient.ambient_raise.Tie as tie
 
 lacks-requires : tie.Need-lacks-requires
-lacks-requires c κs = search needs
+lacks-requires c κs = tt
 
 lacks-requires-2 : tie.Need-lacks-requires-2
-lacks-requires-2 c κs = search needs
+lacks-requires-2 c κs = tt
 
 returns : tie.Need-returns
 unfolding ambientRaise
@@ -31,7 +30,7 @@ returns-2 c =
     )
 
 single-requires : tie.Need-single-requires
-single-requires c κs = search needs
+single-requires c κs = tt
 
 returns-3 : tie.Need-returns-3
 unfolding ambientRaise

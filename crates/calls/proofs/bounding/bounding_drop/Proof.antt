@@ -1,11 +1,10 @@
 -- `calls::bounding::bounding_drop` meets its contract. Assumes nothing.
 use Rattle.rules.specs.Bounding.{boundingDrop}
-use borrow.Author.Needs.{needs}
 use Rattle.calls.proofs.bounding.bounding_drop.Statement.{statement}
 use Rattle.calls.proofs.bounding.bounding_drop.Tie as tie
 
 lacks-requires : tie.Need-lacks-requires
-lacks-requires c κs = search needs
+lacks-requires c κs = tt
 
 returns : tie.Need-returns
 unfolding boundingDrop
@@ -16,10 +15,10 @@ returns c =
     )
 
 single-requires : tie.Need-single-requires
-single-requires c κs = search needs
+single-requires c κs = tt
 
 difference-requires : tie.Need-difference-requires
-difference-requires c κs = search needs
+difference-requires c κs = tt
 
 returns-2 : tie.Need-returns-2
 unfolding boundingDrop

@@ -6,7 +6,7 @@ use Rattle.calls.proofs.bounding.bounding_read.Statement.{statement}
 use Rattle.calls.proofs.bounding.bounding_read.Tie as tie
 
 has-requires : tie.Need-has-requires
-has-requires c κs = search needs
+has-requires c κs = tt
 
 cast-t4 : tie.Need-cast-t4
 cast-t4 c = search needs

@@ -6,7 +6,7 @@ use Rattle.calls.proofs.call.perform.Statement.{statement}
 use Rattle.calls.proofs.call.perform.Tie as tie
 
 is-valid-requires : tie.Need-is-valid-requires
-is-valid-requires c κs = search needs
+is-valid-requires c κs = tt
 
 returns : tie.Need-returns
 unfolding answer
@@ -18,7 +18,7 @@ returns c =
     )
 
 decode-requires : tie.Need-decode-requires
-decode-requires c κs = search needs
+decode-requires c κs = tt
 
 enum-known-call : tie.Need-enum-known-call
 enum-known-call c = search needs
@@ -38,7 +38,7 @@ returns-2 c =
     )
 
 performed-requires : tie.Need-performed-requires
-performed-requires c κs = search needs
+performed-requires c κs = tt
 
 returns-3 : tie.Need-returns-3
 unfolding answer

@@ -7,109 +7,109 @@ enum-known-call : tie.Need-enum-known-call
 enum-known-call c = search needs
 
 launch-requires : tie.Need-launch-requires
-launch-requires c κs = search needs
+launch-requires c κs = tt
 
 enum-known-call-2 : tie.Need-enum-known-call-2
 enum-known-call-2 c = search needs
 
 capset-requires : tie.Need-capset-requires
-capset-requires c κs = search needs
+capset-requires c κs = tt
 
 enum-known-call-3 : tie.Need-enum-known-call-3
 enum-known-call-3 c = search needs
 
 bounding-drop-requires : tie.Need-bounding-drop-requires
-bounding-drop-requires c κs = search needs
+bounding-drop-requires c κs = tt
 
 enum-known-call-4 : tie.Need-enum-known-call-4
 enum-known-call-4 c = search needs
 
 bounding-read-requires : tie.Need-bounding-read-requires
-bounding-read-requires c κs = search needs
+bounding-read-requires c κs = tt
 
 enum-known-call-5 : tie.Need-enum-known-call-5
 enum-known-call-5 c = search needs
 
 ambient-raise-requires : tie.Need-ambient-raise-requires
-ambient-raise-requires c κs = search needs
+ambient-raise-requires c κs = tt
 
 enum-known-call-6 : tie.Need-enum-known-call-6
 enum-known-call-6 c = search needs
 
 ambient-lower-requires : tie.Need-ambient-lower-requires
-ambient-lower-requires c κs = search needs
+ambient-lower-requires c κs = tt
 
 enum-known-call-7 : tie.Need-enum-known-call-7
 enum-known-call-7 c = search needs
 
 ambient-is-set-requires : tie.Need-ambient-is-set-requires
-ambient-is-set-requires c κs = search needs
+ambient-is-set-requires c κs = tt
 
 enum-told : tie.Need-enum-told
 enum-told c = search needs
 
 ambient-clear-all-requires : tie.Need-ambient-clear-all-requires
-ambient-clear-all-requires c κs = search needs
+ambient-clear-all-requires c κs = tt
 
 enum-known-call-8 : tie.Need-enum-known-call-8
 enum-known-call-8 c = search needs
 
 set-securebits-requires : tie.Need-set-securebits-requires
-set-securebits-requires c κs = search needs
+set-securebits-requires c κs = tt
 
 enum-told-2 : tie.Need-enum-told-2
 enum-told-2 c = search needs
 
 get-securebits-requires : tie.Need-get-securebits-requires
-get-securebits-requires c κs = search needs
+get-securebits-requires c κs = tt
 
 enum-known-call-9 : tie.Need-enum-known-call-9
 enum-known-call-9 c = search needs
 
 set-keep-caps-requires : tie.Need-set-keep-caps-requires
-set-keep-caps-requires c κs = search needs
+set-keep-caps-requires c κs = tt
 
 enum-told-3 : tie.Need-enum-told-3
 enum-told-3 c = search needs
 
 get-keep-caps-requires : tie.Need-get-keep-caps-requires
-get-keep-caps-requires c κs = search needs
+get-keep-caps-requires c κs = tt
 
 enum-told-4 : tie.Need-enum-told-4
 enum-told-4 c = search needs
 
 set-no-new-privs-requires : tie.Need-set-no-new-privs-requires
-set-no-new-privs-requires c κs = search needs
+set-no-new-privs-requires c κs = tt
 
 enum-told-5 : tie.Need-enum-told-5
 enum-told-5 c = search needs
 
 get-no-new-privs-requires : tie.Need-get-no-new-privs-requires
-get-no-new-privs-requires c κs = search needs
+get-no-new-privs-requires c κs = tt
 
 enum-known-call-10 : tie.Need-enum-known-call-10
 enum-known-call-10 c = search needs
 
 setuid-requires : tie.Need-setuid-requires
-setuid-requires c κs = search needs
+setuid-requires c κs = tt
 
 enum-known-call-11 : tie.Need-enum-known-call-11
 enum-known-call-11 c = search needs
 
 setreuid-requires : tie.Need-setreuid-requires
-setreuid-requires c κs = search needs
+setreuid-requires c κs = tt
 
 enum-known-call-12 : tie.Need-enum-known-call-12
 enum-known-call-12 c = search needs
 
 setresuid-requires : tie.Need-setresuid-requires
-setresuid-requires c κs = search needs
+setresuid-requires c κs = tt
 
 enum-known-call-13 : tie.Need-enum-known-call-13
 enum-known-call-13 c = search needs
 
 setfsuid-requires : tie.Need-setfsuid-requires
-setfsuid-requires c κs = search needs
+setfsuid-requires c κs = tt
 
 returns : tie.Need-returns
 returns c =

@@ -1,14 +1,13 @@
 -- `calls::capset::capset` meets its contract. Assumes nothing.
 use Rattle.rules.specs.Capset.{capset, capsetSets}
-use borrow.Author.Needs.{needs}
 use Rattle.calls.proofs.capset.capset.Statement.{statement}
 use Rattle.calls.proofs.capset.capset.Tie as tie
 
 lacks-requires : tie.Need-lacks-requires
-lacks-requires c κs = search needs
+lacks-requires c κs = tt
 
 outside-requires : tie.Need-outside-requires
-outside-requires c κs = search needs
+outside-requires c κs = tt
 
 returns : tie.Need-returns
 unfolding capset
@@ -20,7 +19,7 @@ returns c =
     )
 
 outside-requires-2 : tie.Need-outside-requires-2
-outside-requires-2 c κs = search needs
+outside-requires-2 c κs = tt
 
 returns-2 : tie.Need-returns-2
 unfolding capset
@@ -34,7 +33,7 @@ returns-2 c =
     )
 
 outside-requires-3 : tie.Need-outside-requires-3
-outside-requires-3 c κs = search needs
+outside-requires-3 c κs = tt
 
 returns-3 : tie.Need-returns-3
 unfolding capset
@@ -50,7 +49,7 @@ returns-3 c =
     )
 
 outside-requires-4 : tie.Need-outside-requires-4
-outside-requires-4 c κs = search needs
+outside-requires-4 c κs = tt
 
 returns-4 : tie.Need-returns-4
 unfolding capset

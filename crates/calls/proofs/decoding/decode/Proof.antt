@@ -2,72 +2,71 @@
 use Rattle.calls.proofs.Unknown.{unknown}
 use Rattle.rules.specs.Decoding.{decode, usesOne}
 use borrow.Author.Tests.{ne-eqb}
-use borrow.Author.Needs.{needs}
 use Rattle.calls.proofs.decoding.decode.Statement.{statement}
 use Rattle.calls.proofs.decoding.decode.Tie as tie
 
 known-requires : tie.Need-known-requires
-known-requires c κs = search needs
+known-requires c κs = tt
 
 is-within-requires : tie.Need-is-within-requires
-is-within-requires c κs = search needs
+is-within-requires c κs = tt
 
 is-within-requires-2 : tie.Need-is-within-requires-2
-is-within-requires-2 c κs = search needs
+is-within-requires-2 c κs = tt
 
 is-within-requires-3 : tie.Need-is-within-requires-3
-is-within-requires-3 c κs = search needs
+is-within-requires-3 c κs = tt
 
 known-requires-2 : tie.Need-known-requires-2
-known-requires-2 c κs = search needs
+known-requires-2 c κs = tt
 
 known-requires-3 : tie.Need-known-requires-3
-known-requires-3 c κs = search needs
+known-requires-3 c κs = tt
 
 known-requires-4 : tie.Need-known-requires-4
-known-requires-4 c κs = search needs
+known-requires-4 c κs = tt
 
 known-requires-5 : tie.Need-known-requires-5
-known-requires-5 c κs = search needs
+known-requires-5 c κs = tt
 
 known-requires-6 : tie.Need-known-requires-6
-known-requires-6 c κs = search needs
+known-requires-6 c κs = tt
 
 known-requires-7 : tie.Need-known-requires-7
-known-requires-7 c κs = search needs
+known-requires-7 c κs = tt
 
 known-requires-8 : tie.Need-known-requires-8
-known-requires-8 c κs = search needs
+known-requires-8 c κs = tt
 
 known-requires-9 : tie.Need-known-requires-9
-known-requires-9 c κs = search needs
+known-requires-9 c κs = tt
 
 known-requires-10 : tie.Need-known-requires-10
-known-requires-10 c κs = search needs
+known-requires-10 c κs = tt
 
 known-requires-11 : tie.Need-known-requires-11
-known-requires-11 c κs = search needs
+known-requires-11 c κs = tt
 
 known-requires-12 : tie.Need-known-requires-12
-known-requires-12 c κs = search needs
+known-requires-12 c κs = tt
 
 known-requires-13 : tie.Need-known-requires-13
-known-requires-13 c κs = search needs
+known-requires-13 c κs = tt
 
 known-requires-14 : tie.Need-known-requires-14
-known-requires-14 c κs = search needs
+known-requires-14 c κs = tt
 
 known-requires-15 : tie.Need-known-requires-15
-known-requires-15 c κs = search needs
+known-requires-15 c κs = tt
 
 known-requires-16 : tie.Need-known-requires-16
-known-requires-16 c κs = search needs
+known-requires-16 c κs = tt
 
 known-requires-17 : tie.Need-known-requires-17
-known-requires-17 c κs = search needs
+known-requires-17 c κs = tt
 
 known-requires-18 : tie.Need-known-requires-18
-known-requires-18 c κs = search needs
+known-requires-18 c κs = tt
 
 returns : tie.Need-returns
 unfolding decode usesOne

@@ -1,11 +1,10 @@
 -- `calls::ids::filesystem_left` meets its contract. Assumes nothing.
 use Rattle.rules.specs.Ids.{filesystemLeft}
-use borrow.Author.Needs.{needs}
 use Rattle.calls.proofs.ids.filesystem_left.Statement.{statement}
 use Rattle.calls.proofs.ids.filesystem_left.Tie as tie
 
 difference-requires : tie.Need-difference-requires
-difference-requires c κs = search needs
+difference-requires c κs = tt
 
 returns : tie.Need-returns
 unfolding filesystemLeft

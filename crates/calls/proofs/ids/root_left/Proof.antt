@@ -1,15 +1,14 @@
 -- `calls::ids::root_left` meets its contract. Assumes nothing.
 use Rattle.rules.specs.Ids.{rootLeft}
 use borrow.Author.Tests.{eq-eqb, ne-eqb}
-use borrow.Author.Needs.{needs}
 use Rattle.calls.proofs.ids.root_left.Statement.{statement}
 use Rattle.calls.proofs.ids.root_left.Tie as tie
 
 one-of-three-requires : tie.Need-one-of-three-requires
-one-of-three-requires c κs = search needs
+one-of-three-requires c κs = tt
 
 one-of-three-requires-2 : tie.Need-one-of-three-requires-2
-one-of-three-requires-2 c κs = search needs
+one-of-three-requires-2 c κs = tt
 
 returns : tie.Need-returns
 unfolding rootLeft

@@ -1,17 +1,16 @@
 -- `calls::ids::setfsuid` meets its contract. Assumes nothing.
 use Rattle.rules.specs.Ids.{setfsuid}
-use borrow.Author.Needs.{needs}
 use Rattle.calls.proofs.ids.setfsuid.Statement.{statement}
 use Rattle.calls.proofs.ids.setfsuid.Tie as tie
 
 has-requires : tie.Need-has-requires
-has-requires c κs = search needs
+has-requires c κs = tt
 
 setfsuid-changes-requires : tie.Need-setfsuid-changes-requires
-setfsuid-changes-requires c κs = search needs
+setfsuid-changes-requires c κs = tt
 
 sets-after-filesystem-requires : tie.Need-sets-after-filesystem-requires
-sets-after-filesystem-requires c κs = search needs
+sets-after-filesystem-requires c κs = tt
 
 returns : tie.Need-returns
 unfolding setfsuid

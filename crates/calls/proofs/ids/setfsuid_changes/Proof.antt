@@ -1,11 +1,10 @@
 -- `calls::ids::setfsuid_changes` meets its contract. Assumes nothing.
 use Rattle.rules.specs.Ids.{setfsuidChanges}
-use borrow.Author.Needs.{needs}
 use Rattle.calls.proofs.ids.setfsuid_changes.Statement.{statement}
 use Rattle.calls.proofs.ids.setfsuid_changes.Tie as tie
 
 one-of-three-requires : tie.Need-one-of-three-requires
-one-of-three-requires c κs = search needs
+one-of-three-requires c κs = tt
 
 returns : tie.Need-returns
 unfolding setfsuidChanges

@@ -1,20 +1,19 @@
 -- `calls::ids::setresuid` meets its contract. Assumes nothing.
 use Rattle.rules.specs.Ids.{setresuid}
-use borrow.Author.Needs.{needs}
 use Rattle.calls.proofs.ids.setresuid.Statement.{statement}
 use Rattle.calls.proofs.ids.setresuid.Tie as tie
 
 has-requires : tie.Need-has-requires
-has-requires c κs = search needs
+has-requires c κs = tt
 
 setresuid-ids-requires : tie.Need-setresuid-ids-requires
-setresuid-ids-requires c κs = search needs
+setresuid-ids-requires c κs = tt
 
 setresuid-is-allowed-requires : tie.Need-setresuid-is-allowed-requires
-setresuid-is-allowed-requires c κs = search needs
+setresuid-is-allowed-requires c κs = tt
 
 user-ids-changed-requires : tie.Need-user-ids-changed-requires
-user-ids-changed-requires c κs = search needs
+user-ids-changed-requires c κs = tt
 
 returns : tie.Need-returns
 unfolding setresuid

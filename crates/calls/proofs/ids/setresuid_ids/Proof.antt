@@ -1,17 +1,16 @@
 -- `calls::ids::setresuid_ids` meets its contract. Assumes nothing.
 use Rattle.rules.specs.Ids.{setresuidIds}
-use borrow.Author.Needs.{needs}
 use Rattle.calls.proofs.ids.setresuid_ids.Statement.{statement}
 use Rattle.calls.proofs.ids.setresuid_ids.Tie as tie
 
 given-or-requires : tie.Need-given-or-requires
-given-or-requires c κs = search needs
+given-or-requires c κs = tt
 
 given-or-requires-2 : tie.Need-given-or-requires-2
-given-or-requires-2 c κs = search needs
+given-or-requires-2 c κs = tt
 
 given-or-requires-3 : tie.Need-given-or-requires-3
-given-or-requires-3 c κs = search needs
+given-or-requires-3 c κs = tt
 
 returns : tie.Need-returns
 unfolding setresuidIds

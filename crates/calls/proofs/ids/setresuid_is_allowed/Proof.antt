@@ -1,17 +1,16 @@
 -- `calls::ids::setresuid_is_allowed` meets its contract. Assumes nothing.
 use Rattle.rules.specs.Ids.{setresuidAllowed}
-use borrow.Author.Needs.{needs}
 use Rattle.calls.proofs.ids.setresuid_is_allowed.Statement.{statement}
 use Rattle.calls.proofs.ids.setresuid_is_allowed.Tie as tie
 
 one-of-three-requires : tie.Need-one-of-three-requires
-one-of-three-requires c κs = search needs
+one-of-three-requires c κs = tt
 
 one-of-three-requires-2 : tie.Need-one-of-three-requires-2
-one-of-three-requires-2 c κs = search needs
+one-of-three-requires-2 c κs = tt
 
 one-of-three-requires-3 : tie.Need-one-of-three-requires-3
-one-of-three-requires-3 c κs = search needs
+one-of-three-requires-3 c κs = tt
 
 returns : tie.Need-returns
 unfolding setresuidAllowed

@@ -1,20 +1,19 @@
 -- `calls::ids::setreuid` meets its contract. Assumes nothing.
 use Rattle.rules.specs.Ids.{setreuid}
-use borrow.Author.Needs.{needs}
 use Rattle.calls.proofs.ids.setreuid.Statement.{statement}
 use Rattle.calls.proofs.ids.setreuid.Tie as tie
 
 has-requires : tie.Need-has-requires
-has-requires c κs = search needs
+has-requires c κs = tt
 
 setreuid-ids-requires : tie.Need-setreuid-ids-requires
-setreuid-ids-requires c κs = search needs
+setreuid-ids-requires c κs = tt
 
 setreuid-is-allowed-requires : tie.Need-setreuid-is-allowed-requires
-setreuid-is-allowed-requires c κs = search needs
+setreuid-is-allowed-requires c κs = tt
 
 user-ids-changed-requires : tie.Need-user-ids-changed-requires
-user-ids-changed-requires c κs = search needs
+user-ids-changed-requires c κs = tt
 
 returns : tie.Need-returns
 unfolding setreuid

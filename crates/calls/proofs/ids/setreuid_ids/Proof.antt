@@ -1,17 +1,16 @@
 -- `calls::ids::setreuid_ids` meets its contract. Assumes nothing.
 use Rattle.rules.specs.Ids.{setreuidIds}
-use borrow.Author.Needs.{needs}
 use Rattle.calls.proofs.ids.setreuid_ids.Statement.{statement}
 use Rattle.calls.proofs.ids.setreuid_ids.Tie as tie
 
 given-or-requires : tie.Need-given-or-requires
-given-or-requires c κs = search needs
+given-or-requires c κs = tt
 
 given-or-requires-2 : tie.Need-given-or-requires-2
-given-or-requires-2 c κs = search needs
+given-or-requires-2 c κs = tt
 
 setreuid-saved-requires : tie.Need-setreuid-saved-requires
-setreuid-saved-requires c κs = search needs
+setreuid-saved-requires c κs = tt
 
 returns : tie.Need-returns
 unfolding setreuidIds

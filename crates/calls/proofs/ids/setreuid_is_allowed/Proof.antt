@@ -1,11 +1,10 @@
 -- `calls::ids::setreuid_is_allowed` meets its contract. Assumes nothing.
 use Rattle.rules.specs.Ids.{setreuidAllowed}
-use borrow.Author.Needs.{needs}
 use Rattle.calls.proofs.ids.setreuid_is_allowed.Statement.{statement}
 use Rattle.calls.proofs.ids.setreuid_is_allowed.Tie as tie
 
 one-of-three-requires : tie.Need-one-of-three-requires
-one-of-three-requires c κs = search needs
+one-of-three-requires c κs = tt
 
 returns : tie.Need-returns
 unfolding setreuidAllowed

@@ -1,11 +1,10 @@
 -- `calls::ids::setreuid_saved` meets its contract. Assumes nothing.
 use Rattle.rules.specs.Ids.{setreuidSaved}
-use borrow.Author.Needs.{needs}
 use Rattle.calls.proofs.ids.setreuid_saved.Statement.{statement}
 use Rattle.calls.proofs.ids.setreuid_saved.Tie as tie
 
 given-or-requires : tie.Need-given-or-requires
-given-or-requires c κs = search needs
+given-or-requires c κs = tt
 
 returns : tie.Need-returns
 unfolding setreuidSaved

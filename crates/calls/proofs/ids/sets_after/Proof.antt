@@ -1,7 +1,6 @@
 -- `calls::ids::sets_after` meets its contract. Assumes nothing.
 use Rattle.rules.specs.Ids.{setsAfter}
 use borrow.Author.Tests.{eq-eqb, ne-eqb}
-use borrow.Author.Needs.{needs}
 use Rattle.calls.proofs.ids.sets_after.Statement.{statement}
 use Rattle.calls.proofs.ids.sets_after.Tie as tie
 
@@ -10,13 +9,13 @@ unfolding setsAfter
 returns c = simp (ne-eqb _ _ (c .if1 .taken))
 
 root-left-requires : tie.Need-root-left-requires
-root-left-requires c κs = search needs
+root-left-requires c κs = tt
 
 effective-left-requires : tie.Need-effective-left-requires
-effective-left-requires c κs = search needs
+effective-left-requires c κs = tt
 
 effective-taken-requires : tie.Need-effective-taken-requires
-effective-taken-requires c κs = search needs
+effective-taken-requires c κs = tt
 
 returns-2 : tie.Need-returns-2
 unfolding setsAfter

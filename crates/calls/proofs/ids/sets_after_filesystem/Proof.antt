@@ -1,7 +1,6 @@
 -- `calls::ids::sets_after_filesystem` meets its contract. Assumes nothing.
 use Rattle.rules.specs.Ids.{setsAfterFilesystem}
 use borrow.Author.Tests.{eq-eqb, ne-eqb}
-use borrow.Author.Needs.{needs}
 use Rattle.calls.proofs.ids.sets_after_filesystem.Statement.{statement}
 use Rattle.calls.proofs.ids.sets_after_filesystem.Tie as tie
 
@@ -10,10 +9,10 @@ unfolding setsAfterFilesystem
 returns c = simp (ne-eqb _ _ (c .if1 .taken))
 
 filesystem-left-requires : tie.Need-filesystem-left-requires
-filesystem-left-requires c κs = search needs
+filesystem-left-requires c κs = tt
 
 filesystem-taken-requires : tie.Need-filesystem-taken-requires
-filesystem-taken-requires c κs = search needs
+filesystem-taken-requires c κs = tt
 
 returns-2 : tie.Need-returns-2
 unfolding setsAfterFilesystem

@@ -1,20 +1,19 @@
 -- `calls::ids::setuid` meets its contract. Assumes nothing.
 use Rattle.rules.specs.Ids.{setuid}
-use borrow.Author.Needs.{needs}
 use Rattle.calls.proofs.ids.setuid.Statement.{statement}
 use Rattle.calls.proofs.ids.setuid.Tie as tie
 
 has-requires : tie.Need-has-requires
-has-requires c κs = search needs
+has-requires c κs = tt
 
 setuid-is-allowed-requires : tie.Need-setuid-is-allowed-requires
-setuid-is-allowed-requires c κs = search needs
+setuid-is-allowed-requires c κs = tt
 
 setuid-ids-requires : tie.Need-setuid-ids-requires
-setuid-ids-requires c κs = search needs
+setuid-ids-requires c κs = tt
 
 user-ids-changed-requires : tie.Need-user-ids-changed-requires
-user-ids-changed-requires c κs = search needs
+user-ids-changed-requires c κs = tt
 
 returns : tie.Need-returns
 unfolding setuid

@@ -1,11 +1,10 @@
 -- `calls::ids::user_ids_changed` meets its contract. Assumes nothing.
 use Rattle.rules.specs.Ids.{userIdsChanged}
-use borrow.Author.Needs.{needs}
 use Rattle.calls.proofs.ids.user_ids_changed.Statement.{statement}
 use Rattle.calls.proofs.ids.user_ids_changed.Tie as tie
 
 sets-after-requires : tie.Need-sets-after-requires
-sets-after-requires c κs = search needs
+sets-after-requires c κs = tt
 
 returns : tie.Need-returns
 unfolding userIdsChanged

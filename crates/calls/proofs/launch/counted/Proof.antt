@@ -1,17 +1,16 @@
 -- `calls::launch::counted` meets its contract. Assumes nothing.
 use Rattle.rules.specs.Launch.{counted}
-use borrow.Author.Needs.{needs}
 use Rattle.calls.proofs.launch.counted.Statement.{statement}
 use Rattle.calls.proofs.launch.counted.Tie as tie
 
 root-counts-requires : tie.Need-root-counts-requires
-root-counts-requires c κs = search needs
+root-counts-requires c κs = tt
 
 counted-set-requires : tie.Need-counted-set-requires
-counted-set-requires c κs = search needs
+counted-set-requires c κs = tt
 
 counted-set-requires-2 : tie.Need-counted-set-requires-2
-counted-set-requires-2 c κs = search needs
+counted-set-requires-2 c κs = tt
 
 returns : tie.Need-returns
 unfolding counted

@@ -1,11 +1,10 @@
 -- `calls::launch::counted_set` meets its contract. Assumes nothing.
 use Rattle.rules.specs.Launch.{countedSet}
-use borrow.Author.Needs.{needs}
 use Rattle.calls.proofs.launch.counted_set.Statement.{statement}
 use Rattle.calls.proofs.launch.counted_set.Tie as tie
 
 root-counts-requires : tie.Need-root-counts-requires
-root-counts-requires c κs = search needs
+root-counts-requires c κs = tt
 
 returns : tie.Need-returns
 unfolding countedSet

@@ -1,11 +1,10 @@
 -- `calls::launch::effective_id` meets its contract. Assumes nothing.
 use Rattle.rules.specs.Launch.{effectiveId}
-use borrow.Author.Needs.{needs}
 use Rattle.calls.proofs.launch.effective_id.Statement.{statement}
 use Rattle.calls.proofs.launch.effective_id.Tie as tie
 
 in-force-requires : tie.Need-in-force-requires
-in-force-requires c κs = search needs
+in-force-requires c κs = tt
 
 returns : tie.Need-returns
 unfolding effectiveId

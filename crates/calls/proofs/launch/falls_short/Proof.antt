@@ -1,14 +1,13 @@
 -- `calls::launch::falls_short` meets its contract. Assumes nothing.
 use Rattle.rules.specs.Launch.{fallsShort}
-use borrow.Author.Needs.{needs}
 use Rattle.calls.proofs.launch.falls_short.Statement.{statement}
 use Rattle.calls.proofs.launch.falls_short.Tie as tie
 
 gained-requires : tie.Need-gained-requires
-gained-requires c κs = search needs
+gained-requires c κs = tt
 
 outside-requires : tie.Need-outside-requires
-outside-requires c κs = search needs
+outside-requires c κs = tt
 
 returns : tie.Need-returns
 unfolding fallsShort

@@ -1,11 +1,10 @@
 -- `calls::launch::file_read` meets its contract. Assumes nothing.
 use Rattle.rules.specs.Launch.{fileRead, ignoresAttribute}
-use borrow.Author.Needs.{needs}
 use Rattle.calls.proofs.launch.file_read.Statement.{statement}
 use Rattle.calls.proofs.launch.file_read.Tie as tie
 
 ignores-set-id-requires : tie.Need-ignores-set-id-requires
-ignores-set-id-requires c κs = search needs
+ignores-set-id-requires c κs = tt
 
 returns : tie.Need-returns
 unfolding fileRead ignoresAttribute
@@ -16,7 +15,7 @@ returns c =
     )
 
 read-requires : tie.Need-read-requires
-read-requires c κs = search needs
+read-requires c κs = tt
 
 returns-2 : tie.Need-returns-2
 unfolding fileRead ignoresAttribute

@@ -1,11 +1,10 @@
 -- `calls::launch::in_force` meets its contract. Assumes nothing.
 use Rattle.rules.specs.Launch.{inForce}
-use borrow.Author.Needs.{needs}
 use Rattle.calls.proofs.launch.in_force.Statement.{statement}
 use Rattle.calls.proofs.launch.in_force.Tie as tie
 
 ignores-set-id-requires : tie.Need-ignores-set-id-requires
-ignores-set-id-requires c κs = search needs
+ignores-set-id-requires c κs = tt
 
 returns : tie.Need-returns
 unfolding inForce

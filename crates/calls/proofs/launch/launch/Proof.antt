@@ -5,7 +5,7 @@ use Rattle.calls.proofs.launch.launch.Statement.{statement}
 use Rattle.calls.proofs.launch.launch.Tie as tie
 
 file-read-requires : tie.Need-file-read-requires
-file-read-requires c κs = search needs
+file-read-requires c κs = tt
 
 enum-known-file : tie.Need-enum-known-file
 enum-known-file c = search needs
@@ -22,7 +22,7 @@ returns c =
     )
 
 falls-short-requires : tie.Need-falls-short-requires
-falls-short-requires c κs = search needs
+falls-short-requires c κs = tt
 
 returns-2 : tie.Need-returns-2
 unfolding launch
@@ -35,7 +35,7 @@ returns-2 c =
     )
 
 launched-requires : tie.Need-launched-requires
-launched-requires c κs = search needs
+launched-requires c κs = tt
 
 returns-3 : tie.Need-returns-3
 unfolding launch

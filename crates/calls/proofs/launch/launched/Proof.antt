@@ -1,23 +1,22 @@
 -- `calls::launch::launched` meets its contract. Assumes nothing.
 use Rattle.rules.specs.Launch.{launched}
-use borrow.Author.Needs.{needs}
 use Rattle.calls.proofs.launch.launched.Statement.{statement}
 use Rattle.calls.proofs.launch.launched.Tie as tie
 
 launched-ids-requires : tie.Need-launched-ids-requires
-launched-ids-requires c κs = search needs
+launched-ids-requires c κs = tt
 
 counted-requires : tie.Need-counted-requires
-counted-requires c κs = search needs
+counted-requires c κs = tt
 
 launched-ambient-requires : tie.Need-launched-ambient-requires
-launched-ambient-requires c κs = search needs
+launched-ambient-requires c κs = tt
 
 launched-sets-requires : tie.Need-launched-sets-requires
-launched-sets-requires c κs = search needs
+launched-sets-requires c κs = tt
 
 difference-requires : tie.Need-difference-requires
-difference-requires c κs = search needs
+difference-requires c κs = tt
 
 returns : tie.Need-returns
 unfolding launched

@@ -1,14 +1,13 @@
 -- `calls::launch::launched_ambient` meets its contract. Assumes nothing.
 use Rattle.rules.specs.Launch.{launchedAmbient, isPrivileged}
-use borrow.Author.Needs.{needs}
 use Rattle.calls.proofs.launch.launched_ambient.Statement.{statement}
 use Rattle.calls.proofs.launch.launched_ambient.Tie as tie
 
 in-force-requires : tie.Need-in-force-requires
-in-force-requires c κs = search needs
+in-force-requires c κs = tt
 
 in-force-requires-2 : tie.Need-in-force-requires-2
-in-force-requires-2 c κs = search needs
+in-force-requires-2 c κs = tt
 
 returns : tie.Need-returns
 unfolding launchedAmbient isPrivileged

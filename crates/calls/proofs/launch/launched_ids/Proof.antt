@@ -1,11 +1,10 @@
 -- `calls::launch::launched_ids` meets its contract. Assumes nothing.
 use Rattle.rules.specs.Launch.{launchedIds}
-use borrow.Author.Needs.{needs}
 use Rattle.calls.proofs.launch.launched_ids.Statement.{statement}
 use Rattle.calls.proofs.launch.launched_ids.Tie as tie
 
 effective-id-requires : tie.Need-effective-id-requires
-effective-id-requires c κs = search needs
+effective-id-requires c κs = tt
 
 returns : tie.Need-returns
 unfolding launchedIds

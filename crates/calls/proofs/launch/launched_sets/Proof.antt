@@ -1,14 +1,13 @@
 -- `calls::launch::launched_sets` meets its contract. Assumes nothing.
 use Rattle.rules.specs.Launch.{launchedSets}
-use borrow.Author.Needs.{needs}
 use Rattle.calls.proofs.launch.launched_sets.Statement.{statement}
 use Rattle.calls.proofs.launch.launched_sets.Tie as tie
 
 gained-requires : tie.Need-gained-requires
-gained-requires c κs = search needs
+gained-requires c κs = tt
 
 launched-effective-requires : tie.Need-launched-effective-requires
-launched-effective-requires c κs = search needs
+launched-effective-requires c κs = tt
 
 returns : tie.Need-returns
 unfolding launchedSets

@@ -1,12 +1,11 @@
 -- `calls::securebits::set_securebits` meets its contract. Assumes nothing.
 use Rattle.rules.specs.Securebits.{setSecurebits, changesLocked}
 use borrow.Author.Tests.{eq-eqb, ne-eqb}
-use borrow.Author.Needs.{needs}
 use Rattle.calls.proofs.securebits.set_securebits.Statement.{statement}
 use Rattle.calls.proofs.securebits.set_securebits.Tie as tie
 
 lacks-requires : tie.Need-lacks-requires
-lacks-requires c κs = search needs
+lacks-requires c κs = tt
 
 returns : tie.Need-returns
 unfolding setSecurebits changesLocked
@@ -17,7 +16,7 @@ returns c =
     )
 
 outside-requires : tie.Need-outside-requires
-outside-requires c κs = search needs
+outside-requires c κs = tt
 
 returns-2 : tie.Need-returns-2
 unfolding setSecurebits changesLocked

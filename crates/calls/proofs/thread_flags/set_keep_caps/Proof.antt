@@ -1,7 +1,6 @@
 -- `calls::thread_flags::set_keep_caps` meets its contract. Assumes nothing.
 use Rattle.rules.specs.ThreadFlags.{setKeepCaps, withKeepCaps}
 use borrow.Author.Tests.{eq-eqb, ne-eqb}
-use borrow.Author.Needs.{needs}
 use Rattle.calls.proofs.thread_flags.set_keep_caps.Statement.{statement}
 use Rattle.calls.proofs.thread_flags.set_keep_caps.Tie as tie
 
@@ -18,7 +17,7 @@ returns-2 c =
     )
 
 difference-requires : tie.Need-difference-requires
-difference-requires c κs = search needs
+difference-requires c κs = tt
 
 returns-3 : tie.Need-returns-3
 unfolding setKeepCaps withKeepCaps
