@@ -6,9 +6,6 @@ mod ambient;
 mod bounding;
 mod call;
 mod capset;
-mod decoding;
-mod ids;
-mod launch;
 mod securebits;
 mod thread_flags;
 

@@ -5,7 +5,12 @@
 pub mod securebits;
 mod validity;
 
+pub use validity::LARGEST_ID;
+pub use validity::LARGEST_SECUREBITS;
 pub use validity::is_valid;
+
+// What stands for no ID: an ID call leaves the one that it would set, or only asks.
+pub const NO_ID: u64 = 4294967295;
 
 pub struct Ids {
     pub real: u64,

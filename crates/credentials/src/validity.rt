@@ -6,11 +6,11 @@ use capabilities::sets;
 ghost use mathlib.Core.Path.{_≡_};
 ghost use Rattle.credentials.specs.Validity.{ambientHeld, idsInRange, noBitAbove40, valid};
 
-// The largest user ID: 4294967295 stands for "leave it" in some calls.
-const LARGEST_ID: u64 = 4294967294;
+// The largest user ID.
+pub const LARGEST_ID: u64 = 4294967294;
 
 // All eight securebits.
-const LARGEST_SECUREBITS: u64 = 255;
+pub const LARGEST_SECUREBITS: u64 = 255;
 
 // Whether the credentials are valid. No-new-privs is valid either way.
 pub fn is_valid(given: Credentials) -> bool

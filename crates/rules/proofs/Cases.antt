@@ -5,7 +5,7 @@ use Rattle.attribute.specs.Words.{wordAt, wordBytes}
 use Rattle.attribute.specs.Reader.{fileOf, lengthOf, reading, unreadable, version1, version2}
 use Rattle.attribute.specs.Writer.{firstWord, version2Bytes}
 use Rattle.credentials.specs.Validity.{valid}
-use Rattle.rules.specs.Launch.{ignoresSetId, ignoresAttribute, fileRead, inForce, effectiveId, launchedIds, rootCounts, countedSet, counted, isPrivileged, launchedAmbient, gained, launchedEffective, launchedSets, fallsShort, launched, launch}
+use Rattle.rules.specs.Launching.{ignoresSetId, ignoresAttribute, fileRead, inForce, effectiveId, launchedIds, rootCounts, countedSet, counted, isPrivileged, launchedAmbient, gained, launchedEffective, launchedSets, fallsShort, launched, launch}
 use Rattle.rules.specs.Ids.{givenOr, oneOfThree, setuidAllowed, setuidIds, setresuidIds, setresuidAllowed, setfsuidChanges, rootLeft, effectiveLeft, effectiveTaken, filesystemLeft, filesystemTaken, setsAfter, setsAfterFilesystem, userIdsChanged, setuid, setresuid, setfsuid}
 use Rattle.rules.specs.Decoding.{usesOne, known, decode}
 use Rattle.rules.specs.Call.{answer}

@@ -21,7 +21,7 @@ use Rattle.credentials.specs.declared.Credentials.{Credentials}
 use Rattle.credentials.proofs.Valid.{Valid, ValidIds}
 use Rattle.rules.specs.Fields.{isSet, withSets}
 use Rattle.rules.specs.Answers.{code, after}
-use Rattle.rules.specs.Launch.{SET-USER-ID, effectiveId, fallsShort, fileRead, inForce, isPrivileged, launch, launched, launchedAmbient, launchedIds, launchOf}
+use Rattle.rules.specs.Launching.{SET-USER-ID, effectiveId, fallsShort, fileRead, inForce, isPrivileged, launch, launched, launchedAmbient, launchedIds, launchOf}
 use Rattle.rules.specs.Capset.{beyondBounding, beyondPermitted, capset, effectiveExceeds, permittedGrows}
 use Rattle.rules.specs.Bounding.{boundingDrop, boundingRead}
 use Rattle.rules.specs.Ambient.{ambientClearAll, ambientIsSet, ambientLower, ambientRaise, notInBoth, raiseForbidden}

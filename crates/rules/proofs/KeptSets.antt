@@ -12,7 +12,7 @@ use Rattle.credentials.proofs.Valid.{ValidSets}
 use Rattle.rules.specs.Fields.{isSet, withAmbient, withBounding, withEffective}
 use Rattle.rules.specs.Capset.{capsetSets}
 use Rattle.rules.specs.Ids.{anyRoot, effectiveLeft, effectiveTaken, filesystemLeft, filesystemSet, filesystemTaken, rootLeft, setsAfter, setsAfterFilesystem}
-use Rattle.rules.specs.Launch.{gained, launchedEffective, launchedPermitted, launchedSets}
+use Rattle.rules.specs.Launching.{gained, launchedEffective, launchedPermitted, launchedSets}
 use Rattle.rules.specs.Demand3.{reach}
 use Rattle.rules.proofs.Conditions.{cond-cases}
 

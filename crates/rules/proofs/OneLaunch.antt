@@ -21,7 +21,7 @@ use Rattle.credentials.specs.declared.Sets.{Sets}
 use Rattle.credentials.specs.declared.Credentials.{Credentials}
 use Rattle.credentials.proofs.Valid.{Valid, valid-facts}
 use Rattle.rules.specs.Answers.{code, after}
-use Rattle.rules.specs.Launch.{counted, countedSet, fallsShort, fileRead, gained, ignoresAttribute, ignoresSetId, launch, launched, launchedSets, rootCounts}
+use Rattle.rules.specs.Launching.{counted, countedSet, fallsShort, fileRead, gained, ignoresAttribute, ignoresSetId, launch, launched, launchedSets, rootCounts}
 use Rattle.rules.specs.Decoding.{decode, known}
 use Rattle.rules.specs.Call.{answer}
 use Rattle.rules.specs.Run.{result}

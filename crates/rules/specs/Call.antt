@@ -5,7 +5,7 @@ use mathlib.Core.List.{List}
 use lib.ListN.{length}
 use Rattle.credentials.specs.Validity.{valid}
 use Rattle.credentials.specs.declared.Credentials.{Credentials}
-use Rattle.rules.specs.Launch.{launch}
+use Rattle.rules.specs.Launching.{launch}
 use Rattle.rules.specs.Capset.{capset}
 use Rattle.rules.specs.Bounding.{boundingDrop, boundingRead}
 use Rattle.rules.specs.Ambient.{ambientRaise, ambientLower, ambientIsSet, ambientClearAll}

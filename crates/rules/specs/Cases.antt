@@ -10,7 +10,7 @@ use Rattle.credentials.specs.declared.Ids.{Ids}
 use Rattle.credentials.specs.declared.Sets.{Sets}
 use Rattle.credentials.specs.declared.Credentials.{Credentials}
 use Rattle.rules.specs.Fields.{withSecurebits, withSets, withUids}
-use Rattle.rules.specs.Launch.{SET-USER-ID}
+use Rattle.rules.specs.Launching.{SET-USER-ID}
 use Rattle.rules.specs.Run.{Step, Result, result}
 
 pub record Case : Type 0 where

@@ -1,6 +1,6 @@
 pub mod Fields
 pub mod Answers
-pub mod Launch
+pub mod Launching
 pub mod Capset
 pub mod Bounding
 pub mod Ambient

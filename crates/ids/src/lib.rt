@@ -1,0 +1,275 @@
+// The ID calls 15 to 18: setuid(2), setreuid(2), setresuid(2) and setfsuid(2), and what follows for the sets.
+//
+// What a call allows and gives is a matter of four IDs and of whether any may be set; what follows for the sets is of user IDs
+// alone. Every function is proved, for every argument: none has a `requires`. The crate assumes nothing.
+use capabilities::header::CAP_SETUID;
+use capabilities::sets;
+use credentials::Credentials;
+use credentials::Ids;
+use credentials::NO_ID;
+use credentials::Sets;
+use credentials::securebits::SECBIT_KEEP_CAPS;
+use credentials::securebits::SECBIT_NO_SETUID_FIXUP;
+use rules::Answer;
+ghost use mathlib.Core.Path.{_≡_};
+ghost use Rattle.rules.specs.Ids.{effectiveLeft, effectiveTaken, filesystemLeft, filesystemTaken, givenOr, oneOfThree, rootLeft, setfsuid, setfsuidChanges, setresuid, setresuidAllowed, setresuidIds, setreuid, setreuidAllowed, setreuidIds, setreuidSaved, setsAfter, setsAfterFilesystem, setuid, setuidAllowed, setuidIds, userIdsChanged};
+
+// Rule 4's set: CHOWN, DAC_OVERRIDE, DAC_READ_SEARCH, FOWNER, FSETID, LINUX_IMMUTABLE, MKNOD and MAC_OVERRIDE.
+const FILESYSTEM_SET: u64 = 0x1_0800_021f;
+
+// The new ID: the one given, or else the old one.
+fn given_or(old: u64, operand: u64) -> u64
+    ensures { λ r. ⌜ r ≡ givenOr old operand ⌝ }
+{
+    if operand == NO_ID {
+        return old;
+    }
+    operand
+}
+
+// Whether an ID is the real, the effective or the saved one.
+fn one_of_three(uids: Ids, id: u64) -> bool
+    ensures { λ r. ⌜ r ≡ oneOfThree uids id ⌝ }
+{
+    (id == uids.real) | (id == uids.effective) | (id == uids.saved)
+}
+
+// setuid: whether the IDs allow it, where any ID may be set or not.
+fn setuid_is_allowed(any: bool, old: Ids, id: u64) -> bool
+    ensures { λ r. ⌜ r ≡ setuidAllowed any old id ⌝ }
+{
+    any | (id == old.real) | (id == old.saved)
+}
+
+// setuid: the new IDs. All four change where any ID may be set, and else the effective and the filesystem ID.
+fn setuid_ids(any: bool, old: Ids, id: u64) -> Ids
+    ensures { λ r. ⌜ r ≡ setuidIds any old id ⌝ }
+{
+    let mut next = old;
+    next.effective = id;
+    next.filesystem = id;
+    if any {
+        next.real = id;
+        next.saved = id;
+        return next;
+    }
+    next
+}
+
+// setreuid: without SETUID the real ID goes to the real or the effective one, and the effective ID to one of the three.
+fn setreuid_is_allowed(any: bool, old: Ids, new: Ids) -> bool
+    ensures { λ r. ⌜ r ≡ setreuidAllowed any old new ⌝ }
+{
+    any
+        | (((new.real == old.real) | (new.real == old.effective))
+            & one_of_three(old, new.effective))
+}
+
+// setreuid: the saved ID becomes the new effective one where real is given, or effective is given and is not the old real.
+fn setreuid_saved(old: Ids, real: u64, effective: u64) -> u64
+    ensures { λ r. ⌜ r ≡ setreuidSaved old real effective ⌝ }
+{
+    if (real != NO_ID) | ((effective != NO_ID) & (effective != old.real)) {
+        return given_or(old.effective, effective);
+    }
+    old.saved
+}
+
+// setreuid: the new IDs. The filesystem ID is the effective one.
+fn setreuid_ids(old: Ids, real: u64, effective: u64) -> Ids
+    ensures { λ r. ⌜ r ≡ setreuidIds old real effective ⌝ }
+{
+    let mut next = old;
+    next.real = given_or(old.real, real);
+    next.effective = given_or(old.effective, effective);
+    next.saved = setreuid_saved(old, real, effective);
+    next.filesystem = next.effective;
+    next
+}
+
+// setresuid: without SETUID each of the three goes to one of the old three.
+fn setresuid_is_allowed(any: bool, old: Ids, new: Ids) -> bool
+    ensures { λ r. ⌜ r ≡ setresuidAllowed any old new ⌝ }
+{
+    any
+        | (one_of_three(old, new.real)
+            & one_of_three(old, new.effective)
+            & one_of_three(old, new.saved))
+}
+
+// setresuid: the new IDs. The filesystem ID is the effective one.
+fn setresuid_ids(old: Ids, real: u64, effective: u64, saved: u64) -> Ids
+    ensures { λ r. ⌜ r ≡ setresuidIds old real effective saved ⌝ }
+{
+    let mut next = old;
+    next.real = given_or(old.real, real);
+    next.effective = given_or(old.effective, effective);
+    next.saved = given_or(old.saved, saved);
+    next.filesystem = next.effective;
+    next
+}
+
+// setfsuid: whether the filesystem ID changes: to any of the four, or where any ID may be set to any that is given.
+fn setfsuid_changes(any: bool, old: Ids, id: u64) -> bool
+    ensures { λ r. ⌜ r ≡ setfsuidChanges any old id ⌝ }
+{
+    (id != NO_ID) & (any | one_of_three(old, id) | (id == old.filesystem))
+}
+
+// Rule 1: where one of the three IDs was 0 and none is now, A is cleared, and P and E too unless KEEP_CAPS is set.
+fn root_left(old: Ids, new: Ids, securebits: u64, held: Sets) -> Sets
+    ensures { λ r. ⌜ r ≡ rootLeft old new securebits held ⌝ }
+{
+    let mut next = held;
+    if one_of_three(old, 0) & !one_of_three(new, 0) {
+        next.ambient = 0;
+        if securebits & SECBIT_KEEP_CAPS != 0 {
+            return next;
+        }
+        next.permitted = 0;
+        next.effective = 0;
+        return next;
+    }
+    held
+}
+
+// Rule 2: the effective ID from 0 to nonzero clears E.
+fn effective_left(old: Ids, new: Ids, held: Sets) -> Sets
+    ensures { λ r. ⌜ r ≡ effectiveLeft old new held ⌝ }
+{
+    let mut next = held;
+    if (old.effective == 0) & (new.effective != 0) {
+        next.effective = 0;
+        return next;
+    }
+    held
+}
+
+// Rule 3: the effective ID from nonzero to 0 makes P the effective set.
+fn effective_taken(old: Ids, new: Ids, held: Sets) -> Sets
+    ensures { λ r. ⌜ r ≡ effectiveTaken old new held ⌝ }
+{
+    let mut next = held;
+    if (old.effective != 0) & (new.effective == 0) {
+        next.effective = held.permitted;
+        return next;
+    }
+    held
+}
+
+// Rule 4: the filesystem ID from 0 to nonzero takes the filesystem set from E.
+fn filesystem_left(old: Ids, new: Ids, held: Sets) -> Sets
+    ensures { λ r. ⌜ r ≡ filesystemLeft old new held ⌝ }
+{
+    let mut next = held;
+    if (old.filesystem == 0) & (new.filesystem != 0) {
+        next.effective = sets::difference(held.effective, FILESYSTEM_SET);
+        return next;
+    }
+    held
+}
+
+// Rule 4: the filesystem ID from nonzero to 0 gives E the filesystem set's part of P.
+fn filesystem_taken(old: Ids, new: Ids, held: Sets) -> Sets
+    ensures { λ r. ⌜ r ≡ filesystemTaken old new held ⌝ }
+{
+    let mut next = held;
+    if (old.filesystem != 0) & (new.filesystem == 0) {
+        next.effective = held.effective | (FILESYSTEM_SET & held.permitted);
+        return next;
+    }
+    held
+}
+
+// Calls 15 to 17, unless NO_SETUID_FIXUP is set: what rules 1, 2 and 3 make of the sets.
+fn sets_after(old: Ids, new: Ids, securebits: u64, held: Sets) -> Sets
+    ensures { λ r. ⌜ r ≡ setsAfter old new securebits held ⌝ }
+{
+    if securebits & SECBIT_NO_SETUID_FIXUP != 0 {
+        return held;
+    }
+    effective_taken(
+        old,
+        new,
+        effective_left(old, new, root_left(old, new, securebits, held)),
+    )
+}
+
+// Call 18, unless NO_SETUID_FIXUP is set: what rule 4 makes of the sets.
+fn sets_after_filesystem(old: Ids, new: Ids, securebits: u64, held: Sets) -> Sets
+    ensures { λ r. ⌜ r ≡ setsAfterFilesystem old new securebits held ⌝ }
+{
+    if securebits & SECBIT_NO_SETUID_FIXUP != 0 {
+        return held;
+    }
+    filesystem_taken(old, new, filesystem_left(old, new, held))
+}
+
+// An accepted call 15, 16 or 17.
+fn user_ids_changed(start: Credentials, new: Ids) -> Answer
+    ensures { λ r. ⌜ r ≡ userIdsChanged start new ⌝ }
+{
+    let mut next = start;
+    next.uids = new;
+    next.sets = sets_after(start.uids, new, start.securebits, start.sets);
+    Answer::Done {
+        value: 0,
+        after: next,
+    }
+}
+
+// Call 15.
+pub fn setuid(start: Credentials, id: u64) -> Answer
+    ensures { λ r. ⌜ r ≡ setuid start id ⌝ }
+{
+    let any = sets::has(start.sets.effective, CAP_SETUID);
+    if setuid_is_allowed(any, start.uids, id) {
+        return user_ids_changed(start, setuid_ids(any, start.uids, id));
+    }
+    Answer::NotPermitted
+}
+
+// Call 16.
+pub fn setreuid(start: Credentials, real: u64, effective: u64) -> Answer
+    ensures { λ r. ⌜ r ≡ setreuid start real effective ⌝ }
+{
+    let any = sets::has(start.sets.effective, CAP_SETUID);
+    let new = setreuid_ids(start.uids, real, effective);
+    if setreuid_is_allowed(any, start.uids, new) {
+        return user_ids_changed(start, new);
+    }
+    Answer::NotPermitted
+}
+
+// Call 17.
+pub fn setresuid(start: Credentials, real: u64, effective: u64, saved: u64) -> Answer
+    ensures { λ r. ⌜ r ≡ setresuid start real effective saved ⌝ }
+{
+    let any = sets::has(start.sets.effective, CAP_SETUID);
+    let new = setresuid_ids(start.uids, real, effective, saved);
+    if setresuid_is_allowed(any, start.uids, new) {
+        return user_ids_changed(start, new);
+    }
+    Answer::NotPermitted
+}
+
+// Call 18: never refused. The value is the old filesystem ID, whether it changes or not.
+pub fn setfsuid(start: Credentials, id: u64) -> Answer
+    ensures { λ r. ⌜ r ≡ setfsuid start id ⌝ }
+{
+    let old = start.uids;
+    let any = sets::has(start.sets.effective, CAP_SETUID);
+    if setfsuid_changes(any, old, id) {
+        let mut next = start;
+        next.uids.filesystem = id;
+        next.sets = sets_after_filesystem(old, next.uids, start.securebits, start.sets);
+        return Answer::Done {
+            value: old.filesystem,
+            after: next,
+        };
+    }
+    Answer::Done {
+        value: old.filesystem,
+        after: start,
+    }
+}

@@ -1,0 +1,12 @@
+-- `launching::gained` meets its contract. Assumes nothing.
+use Rattle.rules.specs.Launching.{gained}
+use mathlib.Core.Path.{refl}
+use Rattle.launching.proofs.gained.Statement.{statement}
+use Rattle.launching.proofs.gained.Tie as tie
+
+returns : tie.Need-returns
+unfolding gained
+returns c = refl
+
+pub gained-spec : {M : Type 1} → statement M
+gained-spec = tie.close (tie.spec returns)
