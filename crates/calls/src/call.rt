@@ -19,8 +19,8 @@ use rules::Decoded;
 ghost use mathlib.Core.Path.{_≡_};
 ghost use Rattle.rules.specs.Call.{answer, performed};
 
-// The answer to a call. Credentials that are not valid are refused first, then what makes no call, and the call's own
-// rules come last.
+// The answer to a call: for any credentials, number, operands and attribute bytes. Credentials that are not valid are refused first, then
+// what makes no call, then an attribute that cannot be read, and last what the call's own rules refuse.
 pub fn perform(start: Credentials, number: u64, a: u64, b: u64, c: u64, attribute: &[u8]) -> Answer
     ensures { λ r. ⌜ r ≡ answer start number a b c (now (attribute .entry)) ⌝ }
 {
@@ -33,7 +33,7 @@ pub fn perform(start: Credentials, number: u64, a: u64, b: u64, c: u64, attribut
     performed(start, attribute, call)
 }
 
-// What a call does, by its own rules.
+// What a call that is known does, by its own rules.
 fn performed(start: Credentials, attribute: &[u8], call: Call) -> Answer
     ensures { λ r. ⌜ r ≡ performed start (now (attribute .entry)) call ⌝ }
 {

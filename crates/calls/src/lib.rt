@@ -1,7 +1,7 @@
-// The code that meets the rules of the eighteen calls. There is one entry, `perform`.
+// The eighteen calls, by one entry, `perform`: any credentials, number, operands and attribute bytes in, the answer out.
 //
-// A call takes credentials by value and answers changed ones. Every function is proved, for every argument: none has a
-// `requires`. The crate assumes nothing.
+// The calls on the bounding and the ambient set, securebits, keep-caps, no-new-privs and capset are here; launching, the ID calls and
+// decoding are crates below this one. Every function is proved, for every argument: none has a `requires`. The crate assumes nothing.
 mod ambient;
 mod bounding;
 mod call;

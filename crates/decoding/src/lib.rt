@@ -16,8 +16,8 @@ const LARGEST_CAPABILITY: u64 = 40;
 // All five of call 1's flags.
 const LARGEST_FLAGS: u64 = 31;
 
-// The call that a number and its operands make, with an attribute of that size. An operand that the call does not use
-// has to be 0, and the attribute empty except in call 1.
+// The call that a number and operands make, with an attribute of that many bytes, or that they make none: the number is no call's, an
+// operand is out of its range, or one that the call does not use is not 0, or there is an attribute in a call other than 1.
 pub fn decode(number: u64, a: u64, b: u64, c: u64, size: usize) -> Decoded
     ensures { λ r. ⌜ r ≡ decode number a b c size ⌝ }
 {

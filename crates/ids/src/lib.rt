@@ -17,6 +17,79 @@ ghost use Rattle.rules.specs.Ids.{effectiveLeft, effectiveTaken, filesystemLeft
 // Rule 4's set: CHOWN, DAC_OVERRIDE, DAC_READ_SEARCH, FOWNER, FSETID, LINUX_IMMUTABLE, MKNOD and MAC_OVERRIDE.
 const FILESYSTEM_SET: u64 = 0x1_0800_021f;
 
+// Call 15: all four user IDs become id for a thread with SETUID. Without it id has to be the real or the saved one, else the call is
+// refused, and the effective and the filesystem ID become it. The sets follow by rules 1 to 3.
+pub fn setuid(start: Credentials, id: u64) -> Answer
+    ensures { λ r. ⌜ r ≡ setuid start id ⌝ }
+{
+    let any = sets::has(start.sets.effective, CAP_SETUID);
+    if setuid_is_allowed(any, start.uids, id) {
+        return user_ids_changed(start, setuid_ids(any, start.uids, id));
+    }
+    Answer::NotPermitted
+}
+
+// Call 16: the real and the effective ID become those given, and the filesystem ID follows the effective one; refused where the thread lacks
+// SETUID and an ID is not among those allowed. The sets follow by rules 1 to 3.
+pub fn setreuid(start: Credentials, real: u64, effective: u64) -> Answer
+    ensures { λ r. ⌜ r ≡ setreuid start real effective ⌝ }
+{
+    let any = sets::has(start.sets.effective, CAP_SETUID);
+    let new = setreuid_ids(start.uids, real, effective);
+    if setreuid_is_allowed(any, start.uids, new) {
+        return user_ids_changed(start, new);
+    }
+    Answer::NotPermitted
+}
+
+// Call 17: the real, the effective and the saved ID become those given, and the filesystem ID follows the effective one; refused where the
+// thread lacks SETUID and an ID is not among those allowed. The sets follow by rules 1 to 3.
+pub fn setresuid(start: Credentials, real: u64, effective: u64, saved: u64) -> Answer
+    ensures { λ r. ⌜ r ≡ setresuid start real effective saved ⌝ }
+{
+    let any = sets::has(start.sets.effective, CAP_SETUID);
+    let new = setresuid_ids(start.uids, real, effective, saved);
+    if setresuid_is_allowed(any, start.uids, new) {
+        return user_ids_changed(start, new);
+    }
+    Answer::NotPermitted
+}
+
+// Call 18: the filesystem ID becomes id, if it may. Never refused: the value is the old filesystem ID whether it changes or not. The
+// effective set follows by rule 4.
+pub fn setfsuid(start: Credentials, id: u64) -> Answer
+    ensures { λ r. ⌜ r ≡ setfsuid start id ⌝ }
+{
+    let old = start.uids;
+    let any = sets::has(start.sets.effective, CAP_SETUID);
+    if setfsuid_changes(any, old, id) {
+        let mut next = start;
+        next.uids.filesystem = id;
+        next.sets = sets_after_filesystem(old, next.uids, start.securebits, start.sets);
+        return Answer::Done {
+            value: old.filesystem,
+            after: next,
+        };
+    }
+    Answer::Done {
+        value: old.filesystem,
+        after: start,
+    }
+}
+
+// An accepted call 15, 16 or 17.
+fn user_ids_changed(start: Credentials, new: Ids) -> Answer
+    ensures { λ r. ⌜ r ≡ userIdsChanged start new ⌝ }
+{
+    let mut next = start;
+    next.uids = new;
+    next.sets = sets_after(start.uids, new, start.securebits, start.sets);
+    Answer::Done {
+        value: 0,
+        after: next,
+    }
+}
+
 // The new ID: the one given, or else the old one.
 fn given_or(old: u64, operand: u64) -> u64
     ensures { λ r. ⌜ r ≡ givenOr old operand ⌝ }
@@ -34,7 +107,7 @@ fn one_of_three(uids: Ids, id: u64) -> bool
     (id == uids.real) | (id == uids.effective) | (id == uids.saved)
 }
 
-// setuid: whether the IDs allow it, where any ID may be set or not.
+// setuid: whether it may set id: any ID where any may be set, and else the real or the saved one.
 fn setuid_is_allowed(any: bool, old: Ids, id: u64) -> bool
     ensures { λ r. ⌜ r ≡ setuidAllowed any old id ⌝ }
 {
@@ -116,6 +189,18 @@ fn setfsuid_changes(any: bool, old: Ids, id: u64) -> bool
     (id != NO_ID) & (any | one_of_three(old, id) | (id == old.filesystem))
 }
 
+// Calls 15 to 17: what rules 1, 2 and 3 make of the sets, unless NO_SETUID_FIXUP is set.
+fn sets_after(old: Ids, new: Ids, securebits: u64, held: Sets) -> Sets
+    ensures { λ r. ⌜ r ≡ setsAfter old new securebits held ⌝ }
+{
+    if securebits & SECBIT_NO_SETUID_FIXUP != 0 {
+        return held;
+    }
+    let by_1 = root_left(old, new, securebits, held);
+    let by_2 = effective_left(old, new, by_1);
+    effective_taken(old, new, by_2)
+}
+
 // Rule 1: where one of the three IDs was 0 and none is now, A is cleared, and P and E too unless KEEP_CAPS is set.
 fn root_left(old: Ids, new: Ids, securebits: u64, held: Sets) -> Sets
     ensures { λ r. ⌜ r ≡ rootLeft old new securebits held ⌝ }
@@ -157,6 +242,17 @@ fn effective_taken(old: Ids, new: Ids, held: Sets) -> Sets
     held
 }
 
+// Call 18: what rule 4 makes of the sets, unless NO_SETUID_FIXUP is set.
+fn sets_after_filesystem(old: Ids, new: Ids, securebits: u64, held: Sets) -> Sets
+    ensures { λ r. ⌜ r ≡ setsAfterFilesystem old new securebits held ⌝ }
+{
+    if securebits & SECBIT_NO_SETUID_FIXUP != 0 {
+        return held;
+    }
+    let left = filesystem_left(old, new, held);
+    filesystem_taken(old, new, left)
+}
+
 // Rule 4: the filesystem ID from 0 to nonzero takes the filesystem set from E.
 fn filesystem_left(old: Ids, new: Ids, held: Sets) -> Sets
     ensures { λ r. ⌜ r ≡ filesystemLeft old new held ⌝ }
@@ -179,97 +275,4 @@ fn filesystem_taken(old: Ids, new: Ids, held: Sets) -> Sets
         return next;
     }
     held
-}
-
-// Calls 15 to 17, unless NO_SETUID_FIXUP is set: what rules 1, 2 and 3 make of the sets.
-fn sets_after(old: Ids, new: Ids, securebits: u64, held: Sets) -> Sets
-    ensures { λ r. ⌜ r ≡ setsAfter old new securebits held ⌝ }
-{
-    if securebits & SECBIT_NO_SETUID_FIXUP != 0 {
-        return held;
-    }
-    effective_taken(
-        old,
-        new,
-        effective_left(old, new, root_left(old, new, securebits, held)),
-    )
-}
-
-// Call 18, unless NO_SETUID_FIXUP is set: what rule 4 makes of the sets.
-fn sets_after_filesystem(old: Ids, new: Ids, securebits: u64, held: Sets) -> Sets
-    ensures { λ r. ⌜ r ≡ setsAfterFilesystem old new securebits held ⌝ }
-{
-    if securebits & SECBIT_NO_SETUID_FIXUP != 0 {
-        return held;
-    }
-    filesystem_taken(old, new, filesystem_left(old, new, held))
-}
-
-// An accepted call 15, 16 or 17.
-fn user_ids_changed(start: Credentials, new: Ids) -> Answer
-    ensures { λ r. ⌜ r ≡ userIdsChanged start new ⌝ }
-{
-    let mut next = start;
-    next.uids = new;
-    next.sets = sets_after(start.uids, new, start.securebits, start.sets);
-    Answer::Done {
-        value: 0,
-        after: next,
-    }
-}
-
-// Call 15.
-pub fn setuid(start: Credentials, id: u64) -> Answer
-    ensures { λ r. ⌜ r ≡ setuid start id ⌝ }
-{
-    let any = sets::has(start.sets.effective, CAP_SETUID);
-    if setuid_is_allowed(any, start.uids, id) {
-        return user_ids_changed(start, setuid_ids(any, start.uids, id));
-    }
-    Answer::NotPermitted
-}
-
-// Call 16.
-pub fn setreuid(start: Credentials, real: u64, effective: u64) -> Answer
-    ensures { λ r. ⌜ r ≡ setreuid start real effective ⌝ }
-{
-    let any = sets::has(start.sets.effective, CAP_SETUID);
-    let new = setreuid_ids(start.uids, real, effective);
-    if setreuid_is_allowed(any, start.uids, new) {
-        return user_ids_changed(start, new);
-    }
-    Answer::NotPermitted
-}
-
-// Call 17.
-pub fn setresuid(start: Credentials, real: u64, effective: u64, saved: u64) -> Answer
-    ensures { λ r. ⌜ r ≡ setresuid start real effective saved ⌝ }
-{
-    let any = sets::has(start.sets.effective, CAP_SETUID);
-    let new = setresuid_ids(start.uids, real, effective, saved);
-    if setresuid_is_allowed(any, start.uids, new) {
-        return user_ids_changed(start, new);
-    }
-    Answer::NotPermitted
-}
-
-// Call 18: never refused. The value is the old filesystem ID, whether it changes or not.
-pub fn setfsuid(start: Credentials, id: u64) -> Answer
-    ensures { λ r. ⌜ r ≡ setfsuid start id ⌝ }
-{
-    let old = start.uids;
-    let any = sets::has(start.sets.effective, CAP_SETUID);
-    if setfsuid_changes(any, old, id) {
-        let mut next = start;
-        next.uids.filesystem = id;
-        next.sets = sets_after_filesystem(old, next.uids, start.securebits, start.sets);
-        return Answer::Done {
-            value: old.filesystem,
-            after: next,
-        };
-    }
-    Answer::Done {
-        value: old.filesystem,
-        after: start,
-    }
 }

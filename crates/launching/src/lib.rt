@@ -28,8 +28,8 @@ const TRACED: u64 = 8;
 // The kernel was booted with no_file_caps.
 const NO_FILE_CAPS: u64 = 16;
 
-// The launch of a file: refused where its attribute cannot be read, and by f where its own permitted set, with its own
-// bit on, is not given whole.
+// Call 1: what a launch of a file with this owner, these flags and this attribute leaves. It is refused where the attribute counts and
+// cannot be read, and then by f where the file's own bit is on and its own permitted set is not given whole.
 pub fn launch(start: Credentials, owner: u64, flags: u64, attribute: &[u8]) -> Answer
     ensures { λ r. ⌜ r ≡ launch start owner flags (now (attribute .entry)) ⌝ }
 {
