@@ -32,19 +32,19 @@ TRACED = 8
 abbrev pub NO-FILE-CAPS : ℕ
 NO-FILE-CAPS = 16
 
--- a: no-new-privs, a nosuid mount and tracing make the set-ID bits void
+-- a: what makes a launch ignore the set-ID bits: no-new-privs, a nosuid mount, tracing
 unfoldable pub ignoresSetId : Bool → ℕ → Bool
 ignoresSetId nnp flags = nnp || isSet flags NOSUID || isSet flags TRACED
 
--- a: the same three, and no_file_caps, make the attribute void
+-- a: what makes it ignore the attribute: the same three, and no_file_caps
 unfoldable pub ignoresAttribute : Bool → ℕ → Bool
 ignoresAttribute nnp flags = ignoresSetId nnp flags || isSet flags NO-FILE-CAPS
 
--- a: a void attribute is not read and counts as not attached (house rule)
+-- a: an attribute that is ignored is not looked at, as if there were none (house rule)
 unfoldable pub fileRead : Bool → ℕ → List ℕ → Reading
 fileRead nnp flags attribute = cond (ignoresAttribute nnp flags) (File noneAttached) (reading attribute)
 
--- b: a set-ID bit, by its value, is in force where it is set and not void
+-- b: a set-ID bit, by its value, is in force where it is set and not ignored
 unfoldable pub inForce : Bool → ℕ → ℕ → Bool
 inForce nnp flags bit = isSet flags bit && not (ignoresSetId nnp flags)
 
@@ -127,7 +127,7 @@ launchedSecurebits securebits = minus securebits SECBIT-KEEP-CAPS
 unfoldable pub fallsShort : Sets → FileCapabilities → Bool
 fallsShort s f = f .effective && outside (f .permitted) (gained s f)
 
--- b to e together; no-new-privs stays
+-- b to e together: no rule after an ID call runs here, and no-new-privs stays
 unfoldable pub launched : Credentials → ℕ → ℕ → FileCapabilities → Credentials
 launched c owner flags f =
     let u : Ids = launchedIds (c .nnp) flags owner (c .uids) in
