@@ -10,16 +10,19 @@ use Rattle.rules.specs.declared.Call.the-variants.{Execve, Capset, Bound
 use Rattle.rules.specs.declared.Decoded.{Decoded}
 use Rattle.rules.specs.declared.Decoded.the-variants.{Known, Unknown}
 
--- no attribute, and 0 for the operands that are not used: of none, of c, of b and c, of a, b and c
+-- a call that uses a, b and c has no attribute
 abbrev pub usesThree : ℕ → Bool
 usesThree size = eqb size 0
 
+-- a call that uses a and b has c 0 besides
 abbrev pub usesTwo : ℕ → ℕ → Bool
 usesTwo c size = eqb c 0 && usesThree size
 
+-- a call that uses a has b 0 besides
 unfoldable pub usesOne : ℕ → ℕ → ℕ → Bool
 usesOne b c size = eqb b 0 && usesTwo c size
 
+-- a call that uses no operand has a 0 besides
 abbrev pub usesNone : ℕ → ℕ → ℕ → ℕ → Bool
 usesNone a b c size = eqb a 0 && usesOne b c size
 
