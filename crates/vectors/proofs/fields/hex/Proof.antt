@@ -1,11 +1,11 @@
--- `vectors::rows::decimal` is safe and ends. Assumes nothing.
+-- `vectors::fields::hex` is safe and ends. Assumes nothing.
 use Prim.Native.Nat.{_-_, _≤_}
 use lib.ListN.{length}
 use borrow.Author.Needs.{needs}
-use Rattle.vectors.proofs.rows.decimal.Statement.{statement}
-use Rattle.vectors.proofs.rows.decimal.Tie as tie
-use Rattle.vectors.proofs.rows.digit.Reads as digit-reads
-use Rattle.vectors.proofs.rows.value_start.Reads as value-start-reads
+use Rattle.vectors.proofs.fields.hex.Statement.{statement}
+use Rattle.vectors.proofs.fields.hex.Tie as tie
+use Rattle.vectors.proofs.fields.digit.Reads as digit-reads
+use Rattle.vectors.proofs.fields.value_start.Reads as value-start-reads
 
 abbrev Inv-loop : tie.InvT-loop
 Inv-loop row from at₀ value₀ at value = at₀ ≤ at
@@ -46,8 +46,8 @@ loop-again c = search needs
 returns-2 : tie.Need-returns-2 Inv-loop μ-loop
 returns-2 c = search needs
 
-pub decimal-spec : {M : Type 1} → statement M
-decimal-spec =
+pub hex-spec : {M : Type 1} → statement M
+hex-spec =
     tie.close
     (tie.spec
     Inv-loop

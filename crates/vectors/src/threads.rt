@@ -1,0 +1,121 @@
+// Credentials: whether they are valid, and what a call makes of them.
+use crate::fields;
+use crate::output;
+use credentials::Credentials;
+use credentials::Ids;
+use credentials::Sets;
+use rules::Answer;
+
+// The credentials of a row, and where they end.
+struct Start {
+    given: Credentials,
+    end: usize,
+}
+
+// The four user IDs (decimal), the five sets (hex), securebits (hex) and no-new-privs.
+fn start_of(row: &[u8]) -> Start {
+    let real = fields::decimal(row, 0);
+    let effective = fields::decimal(row, real.end);
+    let saved = fields::decimal(row, effective.end);
+    let filesystem = fields::decimal(row, saved.end);
+    let uids = Ids {
+        real: real.value,
+        effective: effective.value,
+        saved: saved.value,
+        filesystem: filesystem.value,
+    };
+    let held = sets_of(row, filesystem.end);
+    let sets = held.given;
+    let securebits = fields::hex(row, held.end);
+    let nnp = fields::hex(row, securebits.end);
+    let given = Credentials {
+        uids,
+        sets,
+        securebits: securebits.value,
+        nnp: nnp.value == 1,
+    };
+    Start {
+        given,
+        end: nnp.end,
+    }
+}
+
+// The sets of a row, and where they end.
+struct Held {
+    given: Sets,
+    end: usize,
+}
+
+fn sets_of(row: &[u8], from: usize) -> Held {
+    let permitted = fields::hex(row, from);
+    let inheritable = fields::hex(row, permitted.end);
+    let effective = fields::hex(row, inheritable.end);
+    let bounding = fields::hex(row, effective.end);
+    let ambient = fields::hex(row, bounding.end);
+    let given = Sets {
+        permitted: permitted.value,
+        inheritable: inheritable.value,
+        effective: effective.value,
+        bounding: bounding.value,
+        ambient: ambient.value,
+    };
+    Held {
+        given,
+        end: ambient.end,
+    }
+}
+
+// Whether the row's credentials are valid.
+pub(crate) fn show_validity(row: &[u8]) {
+    let given = start_of(row).given;
+    output::flag(b"valid=", credentials::is_valid(given));
+    output::text(b"\n");
+}
+
+// The answer to the call whose number (decimal), operands (hex) and attribute bytes follow the credentials.
+pub(crate) fn show_call(row: &[u8]) {
+    let start = start_of(row);
+    let number = fields::decimal(row, start.end);
+    let a = fields::hex(row, number.end);
+    let b = fields::hex(row, a.end);
+    let c = fields::hex(row, b.end);
+    let bytes = fields::bytes(row, c.end);
+    let size = fields::size(row, c.end);
+    let answer = calls::perform(
+        start.given,
+        number.value,
+        a.value,
+        b.value,
+        c.value,
+        &bytes[0..size],
+    );
+    show_answer(answer, start.given);
+}
+
+// What comes back: the number, the value and the state of each answer.
+fn show_answer(answer: Answer, start: Credentials) {
+    match answer {
+        Answer::Done { value, after } => show_result(0, value, after),
+        Answer::NotPermitted => show_result(1, 0, start),
+        Answer::InvalidArgument => show_result(22, 0, start),
+        Answer::UnreadableAttribute => show_result(60, 0, start),
+        Answer::InvalidCredentials => show_result(72, 0, start),
+    }
+}
+
+fn show_result(code: u64, value: u64, after: Credentials) {
+    output::decimal(b"code=", code);
+    output::hex(b" value=", value, 1);
+    output::decimal(b" uids=", after.uids.real);
+    output::decimal(b",", after.uids.effective);
+    output::decimal(b",", after.uids.saved);
+    output::decimal(b",", after.uids.filesystem);
+    output::hex(b" sets=", after.sets.permitted, 1);
+    output::hex(b",", after.sets.inheritable, 1);
+    output::hex(b",", after.sets.effective, 1);
+    output::hex(b",", after.sets.bounding, 1);
+    output::hex(b",", after.sets.ambient, 1);
+    output::hex(b" securebits=", after.securebits, 1);
+    output::flag(b" nnp=", after.nnp);
+    output::text(b"\n");
+}
