@@ -13,7 +13,7 @@ use Rattle.credentials.specs.declared.Credentials.{Credentials}
 use Rattle.credentials.proofs.Valid.{Valid, facts-valid, valid-facts}
 use Rattle.rules.specs.Call.{answer}
 use Rattle.rules.specs.Run.{Result, Step, lastOf, left, result, run}
-use Rattle.rules.specs.Demand3.{Demand3, OneLaunch, launchDone, reach}
+use Rattle.rules.specs.Demand3.{Demanded, OneLaunch, launchDone, reach}
 use Rattle.rules.proofs.KeptCalls.{Kept, answer-keeps, kept-by, nothing-changes, one-after-another, still-valid}
 use Rattle.rules.proofs.OneLaunch.{one-launch}
 
@@ -57,7 +57,7 @@ left-valid start v steps = facts-valid (left start steps) (still-valid v (list-k
 
 -- ---- the theorem
 
-pub demand-3 : (start : Credentials) → valid start ≡ true → (steps : List Step) → Demand3 start steps
+pub demand-3 : Demanded
 demand-3 start h steps =
     let v : Valid start = valid-facts start h in
     let k = list-kept start v steps in

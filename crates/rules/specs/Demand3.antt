@@ -1,4 +1,4 @@
--- Demand 3 as one statement: for any valid start and any list of calls. Proved in proofs/Demand3.antt. Assumes nothing.
+-- Demand 3 as one statement, Demanded, at the end: for any valid start and any list of calls. Proved in proofs/Demand3.antt. Assumes nothing.
 use Prim.Native.Nat.{ℕ}
 use mathlib.Core.Path.{_≡_}
 use mathlib.Core.Bool.{Bool, true, false, cond, _&&_, _||_}
@@ -49,6 +49,7 @@ pub record GoesOn (start : Credentials) (before rest : List Step) : Type 0 where
   -- and leaves what the rest leaves
   pub leaves : left start (before ++ rest) ≡ left (left start before) rest
 
+-- what the demand says of one start and one list
 pub record Demand3 (start : Credentials) (steps : List Step) : Type 0 where
   -- there is one result for each call
   pub one-each : length (run start steps) ≡ length steps
@@ -77,3 +78,7 @@ pub record Demand3 (start : Credentials) (steps : List Step) : Type 0 where
   pub reachable : start .nnp ≡ false → (n : ℕ) → n ∈ reach (start .sets) → (n ∈ start .sets .permitted) ⊎ OneLaunch start n
   -- and so by a launch each one of I or B, be it permitted at the start or not
   pub by-one-launch : start .nnp ≡ false → (n : ℕ) → n ∈ union (start .sets .inheritable) (start .sets .bounding) → OneLaunch start n
+
+-- the demand: from any valid credentials, by any list of calls
+abbrev pub Demanded : Type 0
+Demanded = (start : Credentials) → valid start ≡ true → (steps : List Step) → Demand3 start steps

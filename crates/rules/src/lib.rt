@@ -3,7 +3,9 @@
 // There are no functions: the crate `calls` has the code that meets these rules. The crate assumes nothing.
 use credentials::Credentials;
 
-// What a call answers. A refusal leaves the credentials as they were.
+// What a call answers: done, with its value and the credentials after it, or refused: by the rules (1), because number, operands and attribute
+// make no call (22), because the attribute cannot be read (60), or because the credentials given are not valid (72). A refusal leaves them
+// as they were. specs/Answers.antt gives the number, value and state of each.
 pub enum Answer {
     Done { value: u64, after: Credentials },
     NotPermitted,
@@ -12,7 +14,7 @@ pub enum Answer {
     InvalidCredentials,
 }
 
-// A call by its name, with the operands that it uses.
+// A call by its name, with the operands that it uses, in the order of the numbers 1 to 18.
 pub enum Call {
     Execve {
         owner: u64,
