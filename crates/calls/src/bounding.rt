@@ -6,7 +6,7 @@ use rules::Answer;
 ghost use mathlib.Core.Path.{_≡_};
 ghost use Rattle.rules.specs.Bounding.{boundingDrop, boundingRead};
 
-// Takes a capability from the bounding set, for a thread with SETPCAP. The other sets stay.
+// Call 3: a capability leaves the bounding set, for a thread with SETPCAP. The other sets stay.
 pub(crate) fn bounding_drop(start: Credentials, capability: u64) -> Answer
     ensures { λ r. ⌜ r ≡ boundingDrop start capability ⌝ }
 {
@@ -22,7 +22,7 @@ pub(crate) fn bounding_drop(start: Credentials, capability: u64) -> Answer
     }
 }
 
-// 1 where a capability is in the bounding set.
+// Call 4: 1 where a capability is in the bounding set.
 pub(crate) fn bounding_read(start: Credentials, capability: u64) -> Answer
     ensures { λ r. ⌜ r ≡ boundingRead start capability ⌝ }
 {

@@ -6,7 +6,8 @@ use rules::Answer;
 ghost use mathlib.Core.Path.{_≡_};
 ghost use Rattle.rules.specs.Capset.{capset};
 
-// The new sets, if the four tests allow them. The ambient set loses what left the permitted or the inheritable one.
+// Call 2: the new sets, if the four tests, which stand in the order of the rule, allow them. The ambient set loses what left the
+// permitted or the inheritable one.
 pub(crate) fn capset(start: Credentials, permitted: u64, inheritable: u64, effective: u64) -> Answer
     ensures { λ r. ⌜ r ≡ capset start permitted inheritable effective ⌝ }
 {
