@@ -13,20 +13,19 @@ use Rattle.capabilities.proofs.Inclusion.{and-l, and-r, minus-sub, none-sub, no
 use Rattle.attribute.specs.declared.FileCapabilities.{FileCapabilities}
 use Rattle.attribute.specs.declared.Reading.{Reading}
 use Rattle.attribute.specs.declared.Reading.the-variants.{File, Unreadable}
-use Rattle.credentials.specs.Securebits.{SECBIT-KEEP-CAPS, lockOf}
 use Rattle.credentials.specs.Validity.{idInRange, securebitsInRange, valid}
 use Rattle.credentials.specs.declared.Ids.{Ids}
 use Rattle.credentials.specs.declared.Sets.{Sets}
 use Rattle.credentials.specs.declared.Credentials.{Credentials}
 use Rattle.credentials.proofs.Valid.{Valid, ValidIds}
-use Rattle.rules.specs.Fields.{isSet, withSets}
+use Rattle.rules.specs.Fields.{withSets}
 use Rattle.rules.specs.Answers.{code, after}
 use Rattle.rules.specs.Launching.{SET-USER-ID, effectiveId, fallsShort, fileRead, inForce, isPrivileged, launch, launched, launchedAmbient, launchedIds, launchOf}
 use Rattle.rules.specs.Capset.{beyondBounding, beyondPermitted, capset, effectiveExceeds, permittedGrows}
 use Rattle.rules.specs.Bounding.{boundingDrop, boundingRead}
 use Rattle.rules.specs.Ambient.{ambientClearAll, ambientIsSet, ambientLower, ambientRaise, notInBoth, raiseForbidden}
 use Rattle.rules.specs.Securebits.{changesLocked, getSecurebits, setSecurebits, undoesLock}
-use Rattle.rules.specs.ThreadFlags.{getKeepCaps, getNoNewPrivs, setKeepCaps, setNoNewPrivs}
+use Rattle.rules.specs.ThreadFlags.{getKeepCaps, getNoNewPrivs, keepCapsLocked, setKeepCaps, setNoNewPrivs}
 use Rattle.rules.specs.Ids.{NO-ID, givenOr, isGiven, maySetAnyUserId, setfsuid, setfsuidChanges, setresuid, setresuidAllowed, setresuidIds, setreuid, setreuidAllowed, setreuidIds, setreuidSaved, setreuidSaves, setuid, setuidAllowed, setuidIds, userIdsChanged}
 use Rattle.rules.specs.Decoding.{capabilityInRange, decode, flagsInRange, idOrNone, known, usesOne, usesThree, usesTwo}
 use Rattle.rules.specs.Call.{answer, decoded, performed}
@@ -167,7 +166,7 @@ module _ (c : Credentials) (v : Valid c) where
   keep-caps-keeps : (on : Bool) → Keeps false c (setKeepCaps c on)
   unfolding setKeepCaps
   keep-caps-keeps on =
-      cond-cases (Keeps false c) (isSet (c .securebits) (lockOf SECBIT-KEEP-CAPS)) _ _ (λ h. tt)
+      cond-cases (Keeps false c) (keepCapsLocked (c .securebits)) _ _ (λ h. tt)
       (λ h. record { uids = v .uids; sets = kept-same (v .sets); securebits = bits-keep-caps (c .securebits) on (v .securebits-small) h })
 
   nnp-keeps : Keeps false c (setNoNewPrivs c)

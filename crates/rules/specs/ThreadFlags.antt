@@ -9,6 +9,10 @@ use Rattle.rules.specs.Fields.{isSet, number, withNnp, withSecurebits}
 use Rattle.rules.specs.declared.Answer.{Answer}
 use Rattle.rules.specs.declared.Answer.the-variants.{Done, NotPermitted}
 
+-- call 11's test: the lock of KEEP_CAPS is set
+abbrev pub keepCapsLocked : ℕ → Bool
+keepCapsLocked securebits = isSet securebits (lockOf SECBIT-KEEP-CAPS)
+
 -- securebits with KEEP_CAPS on or off
 unfoldable pub withKeepCaps : ℕ → Bool → ℕ
 withKeepCaps securebits on = cond on (union securebits SECBIT-KEEP-CAPS) (minus securebits SECBIT-KEEP-CAPS)
@@ -16,7 +20,7 @@ withKeepCaps securebits on = cond on (union securebits SECBIT-KEEP-CAPS) (minus 
 -- call 11, set keep-caps: refused where it is locked; needs no capability
 unfoldable pub setKeepCaps : Credentials → Bool → Answer
 setKeepCaps c on =
-    cond (isSet (c .securebits) (lockOf SECBIT-KEEP-CAPS)) NotPermitted
+    cond (keepCapsLocked (c .securebits)) NotPermitted
     (Done 0 (withSecurebits c (withKeepCaps (c .securebits) on)))
 
 -- call 12, get keep-caps
