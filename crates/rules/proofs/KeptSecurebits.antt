@@ -1,5 +1,5 @@
 -- What each rule keeps of the securebits. Assumes nothing.
-use Prim.Native.Nat.{ℕ, suc, _≤_, _<_}
+use Prim.Native.Nat.{ℕ, suc, _-_, _≤_, _<_}
 use mathlib.Core.Path.{_≡_, refl, sym, ap, _∙_, subst}
 use mathlib.Core.Bool.{Bool, true, false, cond, not, _||_, true≢false}
 use mathlib.Core.List.{[], _∷_}
@@ -8,7 +8,7 @@ use lib.Dec.{eqb}
 use borrow.Author.Tests.{eqb-false, eqb-true, ne-eqb, not-false, not-true}
 use Rattle.capabilities.specs.Sets.{has, union, inter, minus, single, _∈_, _⊆_}
 use Rattle.capabilities.proofs.Membership.{has-suc}
-use Rattle.capabilities.proofs.Inclusion.{agree, agrees, in-inter, in-is, inter-l, inter-r, inter-sub-l, inter-sub-r, minus-le, none-sub, not-outside, single-is, single-sub, sub-antisymm, sub-in, sub-inter, sub-refl, sub-trans, sub-union-l, union-lt, within-sub}
+use Rattle.capabilities.proofs.Inclusion.{agree, agrees, in-inter, in-is, inter-l, inter-r, inter-sub-l, inter-sub-r, minus-le, none-sub, not-outside, single-is, single-sub, sub-antisymm, sub-in, sub-inter, sub-refl, sub-trans, union-lt, within-sub}
 use Rattle.capabilities.proofs.Solve.{var, none, _∪_, _∩_, _∖_, solve}
 use Rattle.credentials.specs.Securebits.{SECBIT-NOROOT, SECBIT-NO-SETUID-FIXUP, SECBIT-KEEP-CAPS, SECBIT-NO-CAP-AMBIENT-RAISE, lockOf}
 use Rattle.rules.specs.Fields.{isSet}
@@ -55,11 +55,14 @@ locked-flag : (b n : ℕ) → suc n < 64 → suc n ∈ allLocks → isSet b (sin
 locked-flag b n l k s =
     single-sub (omega arith) (in-is (sym (has-suc (locksSet b) n) ∙ in-inter (set-member b (suc n) l s) k .is!))
 
+-- bits that agree on some bits agree on a part of them
+narrower : (b d m part : ℕ) → inter d m ≡ inter b m → part ⊆ m → inter d part ≡ inter b part
+narrower b d m part e h = agree d b part (λ n k. agrees d b m e n (sub-in h k))
+
 -- bits that agree on the locked flags agree on each of them
 agree-on : (b d flag : ℕ) → flag ⊆ lockedFlags b → changesLocked b d ≡ false → isSet d flag ≡ isSet b flag
 unfolding changesLocked
-agree-on b d flag h e =
-    same-flag b d flag (sym (agree b d flag (λ n m. agrees b d (lockedFlags b) (eqb-true _ _ (not-false _ e)) n (sub-in h m))))
+agree-on b d flag h e = same-flag b d flag (narrower b d (lockedFlags b) flag (sym (eqb-true _ _ (not-false _ e))) h)
 
 -- ---- nothing changes, and one change after another
 
@@ -82,10 +85,10 @@ bits-then {x} {y} {b} {d} {e} h k =
     record {
       small = k .small;
       locks-stay = sub-trans (sub-inter (h .locks-stay) (inter-sub-r b sub-refl)) (k .locks-stay);
-      noroot = λ l. k .noroot (lock-stays 2 (within-sub 2 allLocks refl) h l) ∙ h .noroot l;
-      no-setuid-fixup = λ l. k .no-setuid-fixup (lock-stays 8 (within-sub 8 allLocks refl) h l) ∙ h .no-setuid-fixup l;
-      no-cap-ambient-raise = λ l. k .no-cap-ambient-raise (lock-stays 128 (within-sub 128 allLocks refl) h l) ∙ h .no-cap-ambient-raise l;
-      keep-caps = λ l. k .keep-caps (lock-stays 32 (within-sub 32 allLocks refl) h l)
+      noroot = λ l. k .noroot (lock-stays (lockOf SECBIT-NOROOT) (within-sub (lockOf SECBIT-NOROOT) allLocks refl) h l) ∙ h .noroot l;
+      no-setuid-fixup = λ l. k .no-setuid-fixup (lock-stays (lockOf SECBIT-NO-SETUID-FIXUP) (within-sub (lockOf SECBIT-NO-SETUID-FIXUP) allLocks refl) h l) ∙ h .no-setuid-fixup l;
+      no-cap-ambient-raise = λ l. k .no-cap-ambient-raise (lock-stays (lockOf SECBIT-NO-CAP-AMBIENT-RAISE) (within-sub (lockOf SECBIT-NO-CAP-AMBIENT-RAISE) allLocks refl) h l) ∙ h .no-cap-ambient-raise l;
+      keep-caps = λ l. k .keep-caps (lock-stays (lockOf SECBIT-KEEP-CAPS) (within-sub (lockOf SECBIT-KEEP-CAPS) allLocks refl) h l)
           ∙ ap (cond y false) (h .keep-caps l) ∙ either x y (isSet b SECBIT-KEEP-CAPS);
     }
   where
@@ -104,64 +107,59 @@ bits-set b d l u e =
     record {
       small = l;
       locks-stay = not-outside (locksSet b) d u;
-      noroot = λ s. agree-on b d 1 (locked-flag b 0 (omega arith) (in-is refl) s) e;
-      no-setuid-fixup = λ s. agree-on b d 4 (locked-flag b 2 (omega arith) (in-is refl) s) e;
-      no-cap-ambient-raise = λ s. agree-on b d 64 (locked-flag b 6 (omega arith) (in-is refl) s) e;
-      keep-caps = λ s. agree-on b d 16 (locked-flag b 4 (omega arith) (in-is refl) s) e;
+      noroot = λ s. agree-on b d SECBIT-NOROOT (locked-flag b 0 (omega arith) (in-is refl) s) e;
+      no-setuid-fixup = λ s. agree-on b d SECBIT-NO-SETUID-FIXUP (locked-flag b 2 (omega arith) (in-is refl) s) e;
+      no-cap-ambient-raise = λ s. agree-on b d SECBIT-NO-CAP-AMBIENT-RAISE (locked-flag b 6 (omega arith) (in-is refl) s) e;
+      keep-caps = λ s. agree-on b d SECBIT-KEEP-CAPS (locked-flag b 4 (omega arith) (in-is refl) s) e;
     }
 
--- KEEP_CAPS cleared: no lock and no other flag is touched
-clear-keeps : (b m : ℕ) → minus m SECBIT-KEEP-CAPS ≡ m → inter (minus b SECBIT-KEEP-CAPS) m ≡ inter b m
-clear-keeps b m e =
-    solve (b ∷ m ∷ SECBIT-KEEP-CAPS ∷ []) ((var 0 ∖ var 2) ∩ var 1) (var 0 ∩ (var 1 ∖ var 2)) refl ∙ ap (inter b) e
+-- every bit but KEEP_CAPS
+abbrev others : ℕ
+others = 255 - SECBIT-KEEP-CAPS
 
-clear-locks : (b : ℕ) → locksSet b ⊆ minus b SECBIT-KEEP-CAPS
+-- bits that agree on the others keep all that is to be kept of them
+others-stay : (x : Bool) (b d : ℕ) → d ≤ 255 → inter d others ≡ inter b others
+    → (isSet b (lockOf SECBIT-KEEP-CAPS) ≡ true → isSet d SECBIT-KEEP-CAPS ≡ cond x false (isSet b SECBIT-KEEP-CAPS)) → BitsKept x b d
+others-stay x b d h e k =
+    record {
+      small = h;
+      locks-stay = subst (λ (y : ℕ). y ⊆ d) (part allLocks (within-sub allLocks others refl)) (inter-sub-l allLocks sub-refl);
+      noroot = λ l. same-flag b d SECBIT-NOROOT (part SECBIT-NOROOT (within-sub SECBIT-NOROOT others refl));
+      no-setuid-fixup = λ l. same-flag b d SECBIT-NO-SETUID-FIXUP (part SECBIT-NO-SETUID-FIXUP (within-sub SECBIT-NO-SETUID-FIXUP others refl));
+      no-cap-ambient-raise = λ l.
+          same-flag b d SECBIT-NO-CAP-AMBIENT-RAISE (part SECBIT-NO-CAP-AMBIENT-RAISE (within-sub SECBIT-NO-CAP-AMBIENT-RAISE others refl));
+      keep-caps = k;
+    }
+  where
+    part : (m : ℕ) → m ⊆ others → inter d m ≡ inter b m
+    part m l = narrower b d others m e l
+
+-- KEEP_CAPS cleared
+clear-others : (b : ℕ) → inter (minus b SECBIT-KEEP-CAPS) others ≡ inter b others
 unfolding minus
-clear-locks b = subst (λ (x : ℕ). x ⊆ minus b SECBIT-KEEP-CAPS) (clear-keeps b allLocks refl) (inter-sub-l allLocks sub-refl)
+clear-others b = solve (b ∷ others ∷ SECBIT-KEEP-CAPS ∷ []) ((var 0 ∖ var 2) ∩ var 1) (var 0 ∩ (var 1 ∖ var 2)) refl
+
+clear-small : (b : ℕ) → b ≤ 255 → minus b SECBIT-KEEP-CAPS ≤ 255
+clear-small b h = omega (arith, minus-le b SECBIT-KEEP-CAPS)
 
 clear-clears : (b : ℕ) → isSet (minus b SECBIT-KEEP-CAPS) SECBIT-KEEP-CAPS ≡ false
 clear-clears b = ap (λ (x : ℕ). not (eqb x 0)) (solve (b ∷ SECBIT-KEEP-CAPS ∷ []) ((var 0 ∖ var 1) ∩ var 1) none refl)
 
+-- KEEP_CAPS set
+raise-others : (b : ℕ) → inter (union b SECBIT-KEEP-CAPS) others ≡ inter b others
+raise-others b =
+    solve (b ∷ others ∷ SECBIT-KEEP-CAPS ∷ []) ((var 0 ∪ var 2) ∩ var 1) ((var 0 ∩ var 1) ∪ (var 2 ∩ var 1)) refl
+    ∙ solve (b ∷ others ∷ []) ((var 0 ∩ var 1) ∪ none) (var 0 ∩ var 1) refl
+
+raise-small : (b : ℕ) → b ≤ 255 → union b SECBIT-KEEP-CAPS ≤ 255
+raise-small b h = let l : union b SECBIT-KEEP-CAPS < 256 = union-lt 8 b SECBIT-KEEP-CAPS (omega arith) (omega arith) in omega arith
+
 -- call 1
 pub bits-launched : (b : ℕ) → b ≤ 255 → BitsKept true b (minus b SECBIT-KEEP-CAPS)
-unfolding minus
-bits-launched b h =
-    record {
-      small = omega (arith, minus-le b SECBIT-KEEP-CAPS);
-      locks-stay = clear-locks b;
-      noroot = λ s. same-flag b (minus b SECBIT-KEEP-CAPS) 1 (clear-keeps b 1 refl);
-      no-setuid-fixup = λ s. same-flag b (minus b SECBIT-KEEP-CAPS) 4 (clear-keeps b 4 refl);
-      no-cap-ambient-raise = λ s. same-flag b (minus b SECBIT-KEEP-CAPS) 64 (clear-keeps b 64 refl);
-      keep-caps = λ s. clear-clears b;
-    }
-
--- KEEP_CAPS set: likewise
-raise-keeps : (b m : ℕ) → inter SECBIT-KEEP-CAPS m ≡ 0 → inter (union b SECBIT-KEEP-CAPS) m ≡ inter b m
-raise-keeps b m e =
-    solve (b ∷ m ∷ SECBIT-KEEP-CAPS ∷ []) ((var 0 ∪ var 2) ∩ var 1) ((var 0 ∩ var 1) ∪ (var 2 ∩ var 1)) refl ∙ ap (union (inter b m)) e
-    ∙ solve (b ∷ m ∷ []) ((var 0 ∩ var 1) ∪ none) (var 0 ∩ var 1) refl
+bits-launched b h = others-stay true b (minus b SECBIT-KEEP-CAPS) (clear-small b h) (clear-others b) (λ s. clear-clears b)
 
 -- call 11, where KEEP_CAPS is not locked
 pub bits-keep-caps : (b : ℕ) (on : Bool) → b ≤ 255 → isSet b (lockOf SECBIT-KEEP-CAPS) ≡ false → BitsKept false b (withKeepCaps b on)
-unfolding withKeepCaps minus
-bits-keep-caps b true h u =
-    record {
-      small = small-union;
-      locks-stay = inter-sub-l {a = b} allLocks (sub-union-l SECBIT-KEEP-CAPS sub-refl);
-      noroot = λ s. same-flag b (union b SECBIT-KEEP-CAPS) 1 (raise-keeps b 1 refl);
-      no-setuid-fixup = λ s. same-flag b (union b SECBIT-KEEP-CAPS) 4 (raise-keeps b 4 refl);
-      no-cap-ambient-raise = λ s. same-flag b (union b SECBIT-KEEP-CAPS) 64 (raise-keeps b 64 refl);
-      keep-caps = λ s. absurd (true≢false (sym s ∙ u));
-    }
-  where
-    small-union : union b SECBIT-KEEP-CAPS ≤ 255
-    small-union = let l : union b SECBIT-KEEP-CAPS < 256 = union-lt 8 b SECBIT-KEEP-CAPS (omega arith) (omega arith) in omega arith
-bits-keep-caps b false h u =
-    record {
-      small = omega (arith, minus-le b SECBIT-KEEP-CAPS);
-      locks-stay = clear-locks b;
-      noroot = λ s. same-flag b (minus b SECBIT-KEEP-CAPS) 1 (clear-keeps b 1 refl);
-      no-setuid-fixup = λ s. same-flag b (minus b SECBIT-KEEP-CAPS) 4 (clear-keeps b 4 refl);
-      no-cap-ambient-raise = λ s. same-flag b (minus b SECBIT-KEEP-CAPS) 64 (clear-keeps b 64 refl);
-      keep-caps = λ s. absurd (true≢false (sym s ∙ u));
-    }
+unfolding withKeepCaps
+bits-keep-caps b true h u = others-stay false b (union b SECBIT-KEEP-CAPS) (raise-small b h) (raise-others b) (λ s. absurd (true≢false (sym s ∙ u)))
+bits-keep-caps b false h u = others-stay false b (minus b SECBIT-KEEP-CAPS) (clear-small b h) (clear-others b) (λ s. absurd (true≢false (sym s ∙ u)))

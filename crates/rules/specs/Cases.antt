@@ -20,6 +20,7 @@ pub record Case : Type 0 where
 
 -- ---- how the rows are written
 
+-- the four user IDs, and the five sets P, I, E, B and A
 abbrev pub ids : ℕ → ℕ → ℕ → ℕ → Ids
 ids real effective saved filesystem = record { real = real; effective = effective; saved = saved; filesystem = filesystem }
 
@@ -30,6 +31,7 @@ sets p i e b a = record { permitted = p; inheritable = i; effective = e; boundin
 abbrev pub usual : Credentials
 usual = record { uids = ids 1000 1000 1000 1000; sets = sets 0 0 0 full 0; securebits = 0; nnp = false }
 
+-- the same with IDs 0
 abbrev pub root : Credentials
 root = withUids usual (ids 0 0 0 0)
 
@@ -44,6 +46,7 @@ launch flags attribute = record { number = 1; a = 0; b = flags; c = 0; attribute
 abbrev pub plain : Step
 plain = launch 0 []
 
+-- what comes back where the call is done, and where it is refused
 abbrev pub done : ℕ → Credentials → Result
 done value after = record { code = 0; value = value; after = after }
 

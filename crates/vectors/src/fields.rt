@@ -31,6 +31,14 @@ fn value_start(row: &[u8], from: usize) -> usize {
 }
 
 pub(crate) fn decimal(row: &[u8], from: usize) -> Value {
+    number(row, from, false)
+}
+
+pub(crate) fn hex(row: &[u8], from: usize) -> Value {
+    number(row, from, true)
+}
+
+fn number(row: &[u8], from: usize, is_hex: bool) -> Value {
     let mut at = value_start(row, from);
     let mut value = 0u64;
     while at < row.len() {
@@ -38,24 +46,20 @@ pub(crate) fn decimal(row: &[u8], from: usize) -> Value {
         if next == NO_DIGIT {
             return Value { value, end: at };
         }
-        value = value % ROOM_FOR_A_DIGIT * 10 + next;
+        value = with_digit(value, is_hex, next);
         at += 1;
     }
     Value { value, end: at }
 }
 
-pub(crate) fn hex(row: &[u8], from: usize) -> Value {
-    let mut at = value_start(row, from);
-    let mut value = 0u64;
-    while at < row.len() {
-        let next = digit(row[at]);
-        if next == NO_DIGIT {
-            return Value { value, end: at };
-        }
-        value = value % ROOM_FOR_A_DIGIT * 16 + next;
-        at += 1;
+// A number with one more digit behind it. Digits that it has no room for are lost.
+fn with_digit(value: u64, is_hex: bool, next: u64) -> u64
+    requires { ⌜ next ≤ 15 ⌝ }
+{
+    if is_hex {
+        return value % ROOM_FOR_A_DIGIT * 16 + next;
     }
-    Value { value, end: at }
+    value % ROOM_FOR_A_DIGIT * 10 + next
 }
 
 // How many bytes the row's last field has, two digits each.

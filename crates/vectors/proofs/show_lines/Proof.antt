@@ -4,8 +4,6 @@ use lib.ListN.{length}
 use borrow.Author.Needs.{needs}
 use Rattle.vectors.proofs.show_lines.Statement.{statement}
 use Rattle.vectors.proofs.show_lines.Tie as tie
-use Rattle.vectors.proofs.line_end.Reads as line-end-reads
-use Rattle.vectors.proofs.show_line.Reads as show-line-reads
 
 abbrev Inv-loop : tie.InvT-loop
 Inv-loop text from₀ from = from₀ ≤ from

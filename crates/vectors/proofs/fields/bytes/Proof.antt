@@ -5,8 +5,6 @@ use lib.ListN.{length}
 use borrow.Author.Needs.{needs}
 use Rattle.vectors.proofs.fields.bytes.Statement.{statement}
 use Rattle.vectors.proofs.fields.bytes.Tie as tie
-use Rattle.vectors.proofs.fields.byte.Reads as byte-reads
-use Rattle.vectors.proofs.fields.value_start.Reads as value-start-reads
 
 abbrev Inv-loop : tie.InvT-loop
 Inv-loop row from bytes₀ n₀ at₀ bytes n at = (n ≤ 32) × (length bytes ≡ 32)

@@ -1,17 +1,15 @@
--- `vectors::fields::hex` is safe and ends. Assumes nothing.
+-- `vectors::fields::number` is safe and ends. Assumes nothing.
 use Prim.Native.Nat.{_-_, _≤_}
 use lib.ListN.{length}
 use borrow.Author.Needs.{needs}
-use Rattle.vectors.proofs.fields.hex.Statement.{statement}
-use Rattle.vectors.proofs.fields.hex.Tie as tie
-use Rattle.vectors.proofs.fields.digit.Reads as digit-reads
-use Rattle.vectors.proofs.fields.value_start.Reads as value-start-reads
+use Rattle.vectors.proofs.fields.number.Statement.{statement}
+use Rattle.vectors.proofs.fields.number.Tie as tie
 
 abbrev Inv-loop : tie.InvT-loop
-Inv-loop row from at₀ value₀ at value = at₀ ≤ at
+Inv-loop row from is-hex at₀ value₀ at value = at₀ ≤ at
 
 abbrev μ-loop : tie.MeasureT-loop
-μ-loop row from at₀ value₀ at value = length row - at
+μ-loop row from is-hex at₀ value₀ at value = length row - at
 
 value-start-requires : tie.Need-value-start-requires Inv-loop μ-loop
 value-start-requires c κs = search needs
@@ -28,11 +26,8 @@ digit-requires c κs = search needs
 returns : tie.Need-returns Inv-loop μ-loop
 returns c = search needs
 
-mul-value : tie.Need-mul-value Inv-loop μ-loop
-mul-value c = search needs
-
-add-value : tie.Need-add-value Inv-loop μ-loop
-add-value c = search needs
+with-digit-requires : tie.Need-with-digit-requires Inv-loop μ-loop
+with-digit-requires c κs = search needs
 
 add-at : tie.Need-add-at Inv-loop μ-loop
 add-at c = search needs
@@ -46,8 +41,8 @@ loop-again c = search needs
 returns-2 : tie.Need-returns-2 Inv-loop μ-loop
 returns-2 c = search needs
 
-pub hex-spec : {M : Type 1} → statement M
-hex-spec =
+pub number-spec : {M : Type 1} → statement M
+number-spec =
     tie.close
     (tie.spec
     Inv-loop
@@ -57,8 +52,7 @@ hex-spec =
     shared-slice-read-digit
     digit-requires
     returns
-    mul-value
-    add-value
+    with-digit-requires
     add-at
     loop-less
     loop-again
