@@ -1,0 +1,22 @@
+-- The table of texts holds, by computation. Assumes nothing.
+use mathlib.Core.Path.{refl}
+use Rattle.capabilities.specs.Sets.{has, lacks, minus, single, outside}
+use Rattle.attribute.specs.Words.{wordAt}
+use Rattle.attribute.specs.Reader.{fileOf, lengthOf, reading, unreadable, version1, version2}
+use Rattle.credentials.specs.Validity.{valid}
+use Rattle.rules.specs.Fields.{number}
+use Rattle.rules.specs.Launching.{ignoresSetId, ignoresAttribute, fileRead, inForce, effectiveId, launchedIds, rootCounts, countedSet, counted, isPrivileged, launchedAmbient, gained, launchedEffective, launchedSets, fallsShort, launched, launch}
+use Rattle.rules.specs.Ambient.{ambientIsSet, ambientClearAll}
+use Rattle.rules.specs.Decoding.{usesOne, known, decode}
+use Rattle.rules.specs.Call.{answer}
+use Rattle.rules.specs.Run.{result, run, lastOf}
+use Rattle.format.specs.Line.{hexText, decimalOf, decimalText, keyedText, linesText, readHex, readDigits, readDecimal, afterKey, readLines}
+use Rattle.format.specs.Sheet.{idKinds, setKinds, flagKinds, sheetKinds, sheetText, readFront}
+use Rattle.format.specs.Step.{stepKinds, readPairs, readStep}
+use Rattle.format.specs.Plan.{readSteps, readPlan}
+use Rattle.format.specs.Report.{resultKinds, resultText, resultsText, reportText, verdict}
+use Rattle.format.specs.Texts.{TextsHold, times, table, found, wanted}
+
+pub texts-hold : TextsHold
+unfolding ambientIsSet ambientClearAll has lacks minus single outside wordAt fileOf lengthOf reading unreadable version1 version2 valid number ignoresSetId ignoresAttribute fileRead inForce effectiveId launchedIds rootCounts countedSet counted isPrivileged launchedAmbient gained launchedEffective launchedSets fallsShort launched launch usesOne known decode answer result run lastOf hexText decimalOf decimalText keyedText linesText readHex readDigits readDecimal afterKey readLines idKinds setKinds flagKinds sheetKinds sheetText readFront stepKinds readPairs readStep readSteps readPlan resultKinds resultText resultsText reportText verdict times table found wanted
+texts-hold = refl

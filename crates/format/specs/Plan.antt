@@ -1,0 +1,39 @@
+-- The plan ("Sheet, plan and report"): a sheet and 0 to 256 steps. Assumes nothing.
+use Prim.Native.Nat.{ℕ, zero, suc, _+_}
+use mathlib.Core.List.{List, [], _∷_, _++_}
+use Rattle.credentials.specs.declared.Credentials.{Credentials}
+use Rattle.rules.specs.Run.{Step}
+use Rattle.format.specs.Line.{Read, read, faultAt, next, mapped}
+use Rattle.format.specs.Sheet.{readFront, sheetText}
+use Rattle.format.specs.Step.{readStep, stepText}
+
+-- what a plan holds: the credentials at the start, and the steps
+pub record Plan : Type 0 where
+  pub start : Credentials
+  pub steps : List Step
+
+-- ---- written
+
+unfoldable pub stepsText : List Step → List ℕ
+stepsText [] = []
+stepsText (s ∷ ss) = stepText s ++ stepsText ss
+
+unfoldable pub planText : Plan → List ℕ
+planText p = sheetText (p .start) ++ stepsText (p .steps)
+
+-- ---- read
+
+-- up to n steps to the end of the text; one more is a fault at its first line, whatever stands there
+unfoldable pub readSteps : ℕ → List ℕ → Read (List Step)
+readSteps zero [] = read [] []
+readSteps zero (b ∷ t) = faultAt 1
+readSteps (suc n) [] = read [] []
+readSteps (suc n) (b ∷ t) = next 5 (readStep (b ∷ t)) (λ s rest. mapped (λ ss. s ∷ ss) (readSteps n rest))
+
+-- the most steps of a plan
+abbrev pub MOST-STEPS : ℕ
+MOST-STEPS = 256
+
+-- a whole text that is to be a plan
+unfoldable pub readPlan : List ℕ → Read Plan
+readPlan t = next 11 (readFront t) (λ c rest. mapped (λ ss. record { start = c; steps = ss }) (readSteps MOST-STEPS rest))

@@ -1,0 +1,39 @@
+-- Written and read, each from the other: the statements, which proofs/RoundTrip.antt proves. Assumes nothing.
+use Prim.Native.Nat.{ℕ, _<_, _≤_, _^_}
+use mathlib.Core.Path.{_≡_}
+use mathlib.Core.Bool.{true}
+use mathlib.Core.List.{List, [], _∷_, _++_}
+use lib.ListN.{length}
+use Rattle.credentials.specs.Validity.{valid}
+use Rattle.credentials.specs.declared.Credentials.{Credentials}
+use Rattle.rules.specs.Run.{Step}
+use Rattle.format.specs.declared.SheetReading.the-variants.{Sheet}
+use Rattle.format.specs.Line.{read}
+use Rattle.format.specs.Sheet.{sheetText, readSheet}
+use Rattle.format.specs.Step.{stepText, readStep}
+
+-- sheets
+pub record SheetRoundTrip : Type 0 where
+  -- reading the sheet written for valid credentials gives them back
+  pub written-read : (c : Credentials) → valid c ≡ true → readSheet (sheetText c) ≡ Sheet c
+  -- a text that is read as credentials is the sheet written for them, and they are valid
+  pub read-written : (text : List ℕ) (c : Credentials) → readSheet text ≡ Sheet c → (text ≡ sheetText c) × (valid c ≡ true)
+
+-- every element is a byte
+unfoldable pub Bytes : List ℕ → Type 0
+Bytes [] = Unit
+Bytes (b ∷ bs) = (b < 256) × Bytes bs
+
+-- what a step can hold: a number up to 99, operands of 64 bits, at most 24 attribute bytes
+pub record Writable (s : Step) : Type 0 where
+  pub number : s .number ≤ 99
+  pub a : s .a < 2 ^ 64
+  pub b : s .b < 2 ^ 64
+  pub c : s .c < 2 ^ 64
+  pub size : length (s .attribute) ≤ 24
+  pub bytes : Bytes (s .attribute)
+
+-- steps: a text is read as a step exactly if it begins with that step's written form
+pub record StepRoundTrip : Type 0 where
+  pub written-read : (s : Step) (rest : List ℕ) → Writable s → readStep (stepText s ++ rest) ≡ read s rest
+  pub read-written : (text : List ℕ) (s : Step) (rest : List ℕ) → readStep text ≡ read s rest → (text ≡ stepText s ++ rest) × Writable s
