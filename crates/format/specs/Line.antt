@@ -4,7 +4,7 @@ use Prim.Native.String as S
 use Prim.Native.String.{String}
 use Prim.Native.Char.{code}
 use mathlib.Core.List.{List, [], _∷_, _++_}
-use mathlib.Core.Bool.{Bool, cond, _&&_}
+use mathlib.Core.Bool.{cond, _&&_}
 use lib.Dec.{ltb, leb, eqb}
 
 -- the bytes of a quoted text
@@ -54,13 +54,13 @@ valueText (hex n) v = hexText n v
 abbrev pub keyText : Kind → List ℕ
 keyText k = bytes (k .key) ++ bytes "="
 
--- a key with its `=`, a value and a newline
-unfoldable pub keyedText : List ℕ → Form → ℕ → List ℕ
-keyedText key form v = key ++ (valueText form v ++ bytes "\n")
+-- a key with its `=`, a value's text and a newline
+unfoldable pub keyedText : List ℕ → List ℕ → List ℕ
+keyedText key value = key ++ (value ++ bytes "\n")
 
 -- the line of a kind
 abbrev pub lineText : Kind → ℕ → List ℕ
-lineText k v = keyedText (keyText k) (k .form) v
+lineText k v = keyedText (keyText k) (valueText (k .form) v)
 
 -- the lines of these kinds with these values, in this order
 unfoldable pub linesText : List Kind → List ℕ → List ℕ

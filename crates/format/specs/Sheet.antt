@@ -6,8 +6,6 @@ use lib.Dec.{leb, eqb}
 use lib.ListN.{length, getD, drop}
 use Rattle.attribute.specs.declared.Written.{Written}
 use Rattle.credentials.specs.Validity.{valid}
-use Rattle.credentials.specs.declared.Ids.{Ids}
-use Rattle.credentials.specs.declared.Sets.{Sets}
 use Rattle.credentials.specs.declared.Credentials.{Credentials}
 use Rattle.rules.specs.Fields.{number}
 use Rattle.format.specs.declared.SheetReading.{SheetReading}

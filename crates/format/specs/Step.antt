@@ -5,7 +5,7 @@ use mathlib.Core.Bool.{cond, _&&_}
 use lib.Dec.{ltb, eqb}
 use lib.ListN.{getD}
 use Rattle.rules.specs.Run.{Step}
-use Rattle.format.specs.Line.{bytes, Kind, kind, decimal, hex, hexText, linesText, Read, read, fault, next, mapped, hexDigit, newline, afterKey, readLines}
+use Rattle.format.specs.Line.{bytes, Kind, kind, decimal, hex, hexText, keyedText, linesText, Read, read, fault, next, mapped, hexDigit, newline, afterKey, readLines}
 
 -- its first four lines: the call's number, 0 to 99, and the operands, 16 hex digits
 unfoldable pub stepKinds : List Kind
@@ -23,8 +23,8 @@ pairsText [] = []
 pairsText (b ∷ bs) = hexText 2 b ++ pairsText bs
 
 -- the line of an attribute's bytes
-unfoldable pub attributeText : List ℕ → List ℕ
-attributeText bs = attributeKey ++ (pairsText bs ++ bytes "\n")
+abbrev pub attributeText : List ℕ → List ℕ
+attributeText bs = keyedText attributeKey (pairsText bs)
 
 -- the five lines of a step
 unfoldable pub stepText : Step → List ℕ

@@ -1,7 +1,6 @@
 -- Whole texts and what they come to: the paper's report of case 2, and faults with their lines. proofs/Texts.antt proves them by computing both
 -- sides. Assumes nothing.
 use Prim.Native.Nat.{ℕ, zero, suc}
-use Prim.Native.String.{String}
 use mathlib.Core.Path.{_≡_}
 use mathlib.Core.List.{List, [], _∷_, _++_}
 use Rattle.format.specs.Line.{bytes}
