@@ -1,3 +1,0 @@
-pub mod Reading
-pub mod Pairs
-pub mod Writing
