@@ -1,2 +1,5 @@
 pub mod Decimals
+pub mod Digits
+pub mod Reading
 pub mod Texts
+pub mod WrittenRead
