@@ -1,0 +1,123 @@
+-- An attribute's line, two hex digits a byte: written and read, each from the other. Assumes nothing.
+use mathlib.Core.Path.{_≡_, refl, sym, ap, _∙_}
+use mathlib.Core.List.{List, [], _∷_, _++_, append-assoc, append-nil}
+use mathlib.Core.Bool.{Bool, true, false, cond, _&&_}
+use Prim.Native.Nat.{ℕ, zero, suc, _+_, _*_, _/_, _%_, _<_, _≤_}
+use native.Mathlib.Nat.{not-suc-le-zero}
+use native.Mathlib.Omega.{arith}
+use borrow.Author.Tests.{ltb-true, lt-ltb, ne-eqb}
+use lib.Dec.{ltb, eqb}
+use lib.ListN.{length}
+use Rattle.capabilities.proofs.Inclusion.{and-l, and-r}
+use Rattle.format.specs.Line.{bytes, digit, hexText, read, fault, hexDigit, newline}
+use Rattle.format.specs.Step.{pairsText, readPairs, readAttribute}
+use Rattle.format.specs.RoundTrip.{Bytes}
+use Rattle.format.proofs.Digits.{hex-digit-read, hex-digit-written, digit-no-newline}
+use Rattle.format.proofs.Reading.{fault-read, tested}
+use Rattle.format.proofs.WrittenRead.{key-read, line-then}
+use Rattle.format.proofs.ReadWritten.{key-written, newline-told}
+
+-- a byte's two digits
+pair-text : (b : ℕ) → hexText 2 b ≡ digit (b / 16 % 16) ∷ digit (b % 16) ∷ []
+unfolding hexText
+pair-text b = refl
+
+-- ---- what was written is read
+
+pairs-end : (n : ℕ) (front t : List ℕ) → readPairs n front (newline ∷ t) ≡ read front t
+unfolding readPairs
+pairs-end zero front t = refl
+pairs-end (suc n) front [] = refl
+pairs-end (suc n) front (c ∷ t) = refl
+
+pair-read : (n c d : ℕ) (front t : List ℕ) → c < 16 → d < 16
+    → readPairs (suc n) front (digit c ∷ digit d ∷ t) ≡ readPairs n (front ++ ((c * 16 + d) ∷ [])) t
+unfolding readPairs
+pair-read n c d front t h g =
+    rw (ne-eqb (digit c) newline (digit-no-newline c), hex-digit-read c h, hex-digit-read d g, lt-ltb c 16 h, lt-ltb d 16 g)
+
+pairs-read : (n : ℕ) (front bs t : List ℕ) → Bytes bs → length bs ≤ n → readPairs n front (pairsText bs ++ (newline ∷ t)) ≡ read (front ++ bs) t
+unfolding pairsText Bytes
+pairs-read n front [] t h l = pairs-end n front t ∙ ap (λ (xs : List ℕ). read xs t) (sym (append-nil front))
+pairs-read zero front (b ∷ bs) t h l = absurd (not-suc-le-zero l)
+pairs-read (suc n) front (b ∷ bs) t h l =
+    let whole : b / 16 % 16 * 16 + b % 16 ≡ b = omega (arith, h .0) in
+    let after = pairsText bs ++ (newline ∷ t) in
+    rw (append-assoc (hexText 2 b) (pairsText bs) (newline ∷ t), pair-text b)
+    (pair-read n (b / 16 % 16) (b % 16) front after (omega arith) (omega arith)
+    ∙ ap (λ (x : ℕ). readPairs n (front ++ (x ∷ [])) after) whole
+    ∙ pairs-read n (front ++ (b ∷ [])) bs t (h .1) (omega (arith, l))
+    ∙ ap (λ (xs : List ℕ). read xs t) (append-assoc front (b ∷ []) bs))
+
+-- a written attribute
+pub attribute-read : (key bs t : List ℕ) → Bytes bs → length bs ≤ 24 → readAttribute key ((key ++ (pairsText bs ++ bytes "\n")) ++ t) ≡ read bs t
+attribute-read key bs t h l =
+    ap (readAttribute key) (line-then key (pairsText bs) t)
+    ∙ key-read key (readPairs 24 []) (pairsText bs ++ (newline ∷ t))
+    ∙ pairs-read 24 [] bs t h l
+
+-- ---- a text that is read is the written one
+
+pair-written : (b c : ℕ) → hexDigit b < 16 → hexDigit c < 16 → hexText 2 (hexDigit b * 16 + hexDigit c) ≡ b ∷ c ∷ []
+pair-written b c h g =
+    let x : (hexDigit b * 16 + hexDigit c) / 16 % 16 ≡ hexDigit b = omega arith in
+    let y : (hexDigit b * 16 + hexDigit c) % 16 ≡ hexDigit c = omega arith in
+    pair-text (hexDigit b * 16 + hexDigit c) ∙ rw (x, y) (λ i. hex-digit-written b h i ∷ hex-digit-written c g i ∷ [])
+
+-- the bytes w are those in front and up to n more, which the text begins with
+record Told (n : ℕ) (front w t rest : List ℕ) : Type 0 where
+  got : List ℕ
+  all : w ≡ front ++ got
+  text : t ≡ pairsText got ++ (newline ∷ rest)
+  small : Bytes got
+  size : length got ≤ n
+
+told-end : (n b : ℕ) (front w t rest : List ℕ) → eqb b newline ≡ true → read front t ≡ read w rest → Told n front w (b ∷ t) rest
+unfolding pairsText Bytes
+told-end n b front w t rest q e =
+    let p : front ≡ w = cc in
+    record { got = []; all = sym p ∙ sym (append-nil front); text = newline-told b front w t rest q e; small = tt; size = omega arith }
+
+told-by : (n b c : ℕ) (front w t rest : List ℕ) (s : Bool) → eqb b newline ≡ s
+    → ((u : List ℕ) → readPairs n u t ≡ read w rest → Told n u w t rest)
+    → cond s (read front (c ∷ t))
+    (cond (ltb (hexDigit b) 16 && ltb (hexDigit c) 16) (readPairs n (front ++ ((hexDigit b * 16 + hexDigit c) ∷ [])) t) fault) ≡ read w rest
+    → Told (suc n) front w (b ∷ c ∷ t) rest
+unfolding pairsText Bytes
+told-by n b c front w t rest true q f e = told-end (suc n) b front w (c ∷ t) rest q e
+told-by n b c front w t rest false q f e =
+    let x = hexDigit b * 16 + hexDigit c in
+    let r = tested w rest (ltb (hexDigit b) 16 && ltb (hexDigit c) 16) (readPairs n (front ++ (x ∷ [])) t) e in
+    let h : hexDigit b < 16 = ltb-true _ 16 (and-l (ltb (hexDigit b) 16) (ltb (hexDigit c) 16) (r .0)) in
+    let g : hexDigit c < 16 = ltb-true _ 16 (and-r (ltb (hexDigit b) 16) (ltb (hexDigit c) 16) (r .0)) in
+    let i = f (front ++ (x ∷ [])) (r .1) in
+    record {
+      got = x ∷ i .got;
+      all = i .all ∙ append-assoc front (x ∷ []) (i .got);
+      text =
+        ap (λ (xs : List ℕ). b ∷ c ∷ xs) (i .text)
+        ∙ sym (ap (λ (xs : List ℕ). xs ++ (pairsText (i .got) ++ (newline ∷ rest))) (pair-written b c h g))
+        ∙ sym (append-assoc (hexText 2 x) (pairsText (i .got)) (newline ∷ rest));
+      small = (omega arith, i .small);
+      size = omega (arith, i .size);
+    }
+
+told : (n : ℕ) (front w t rest : List ℕ) → readPairs n front t ≡ read w rest → Told n front w t rest
+unfolding readPairs
+told zero front w [] rest e = fault-read w rest 1 e
+told zero front w (b ∷ t) rest e =
+    let r = tested w rest (eqb b newline) (read front t) e in
+    told-end zero b front w t rest (r .0) (r .1)
+told (suc n) front w [] rest e = fault-read w rest 1 e
+told (suc n) front w (b ∷ []) rest e =
+    let r = tested w rest (eqb b newline) (read front []) e in
+    told-end (suc n) b front w [] rest (r .0) (r .1)
+told (suc n) front w (b ∷ c ∷ t) rest e = told-by n b c front w t rest (eqb b newline) refl (λ u g. told n u w t rest g) e
+
+-- an attribute that is read
+pub attribute-written : (key bs t rest : List ℕ) → readAttribute key t ≡ read bs rest
+    → (t ≡ (key ++ (pairsText bs ++ bytes "\n")) ++ rest) × Bytes bs × (length bs ≤ 24)
+attribute-written key bs t rest e =
+    let k = key-written key (readPairs 24 []) bs t rest e in
+    let p = told 24 [] bs (k .0) rest (k .2) in
+    rw (p .all) (k .1 ∙ ap (λ (xs : List ℕ). key ++ xs) (p .text) ∙ sym (line-then key (pairsText (p .got)) rest), p .small, p .size)
