@@ -1,7 +1,11 @@
 pub mod Decimals
 pub mod Digits
+pub mod Fitting
 pub mod Pairs
 pub mod Reading
 pub mod ReadWritten
+pub mod RoundTrip
+pub mod Sheets
+pub mod Steps
 pub mod Texts
 pub mod WrittenRead

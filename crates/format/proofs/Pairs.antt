@@ -53,8 +53,8 @@ pairs-read (suc n) front (b ∷ bs) t h l =
 pub attribute-read : (key bs t : List ℕ) → Bytes bs → length bs ≤ 24 → readAttribute key ((key ++ (pairsText bs ++ bytes "\n")) ++ t) ≡ read bs t
 attribute-read key bs t h l =
     ap (readAttribute key) (line-then key (pairsText bs) t)
-    ∙ key-read key (readPairs 24 []) (pairsText bs ++ (newline ∷ t))
-    ∙ pairs-read 24 [] bs t h l
+    ∙ key-read key _ (pairsText bs ++ (newline ∷ t))
+    ∙ pairs-read _ [] bs t h (omega (arith, l))
 
 -- ---- a text that is read is the written one
 
@@ -95,20 +95,20 @@ told-by n b c front w t rest false q f e =
       got = x ∷ i .got;
       all = i .all ∙ append-assoc front (x ∷ []) (i .got);
       text =
-        ap (λ (xs : List ℕ). b ∷ c ∷ xs) (i .text)
-        ∙ sym (ap (λ (xs : List ℕ). xs ++ (pairsText (i .got) ++ (newline ∷ rest))) (pair-written b c h g))
-        ∙ sym (append-assoc (hexText 2 x) (pairsText (i .got)) (newline ∷ rest));
+          ap (λ (xs : List ℕ). b ∷ c ∷ xs) (i .text)
+          ∙ sym (ap (λ (xs : List ℕ). xs ++ (pairsText (i .got) ++ (newline ∷ rest))) (pair-written b c h g))
+          ∙ sym (append-assoc (hexText 2 x) (pairsText (i .got)) (newline ∷ rest));
       small = (omega arith, i .small);
       size = omega (arith, i .size);
     }
 
 told : (n : ℕ) (front w t rest : List ℕ) → readPairs n front t ≡ read w rest → Told n front w t rest
 unfolding readPairs
-told zero front w [] rest e = fault-read w rest 1 e
+told zero front w [] rest e = fault-read w rest e
 told zero front w (b ∷ t) rest e =
     let r = tested w rest (eqb b newline) (read front t) e in
     told-end zero b front w t rest (r .0) (r .1)
-told (suc n) front w [] rest e = fault-read w rest 1 e
+told (suc n) front w [] rest e = fault-read w rest e
 told (suc n) front w (b ∷ []) rest e =
     let r = tested w rest (eqb b newline) (read front []) e in
     told-end (suc n) b front w [] rest (r .0) (r .1)
@@ -118,6 +118,6 @@ told (suc n) front w (b ∷ c ∷ t) rest e = told-by n b c front w t rest (eqb 
 pub attribute-written : (key bs t rest : List ℕ) → readAttribute key t ≡ read bs rest
     → (t ≡ (key ++ (pairsText bs ++ bytes "\n")) ++ rest) × Bytes bs × (length bs ≤ 24)
 attribute-written key bs t rest e =
-    let k = key-written key (readPairs 24 []) bs t rest e in
-    let p = told 24 [] bs (k .0) rest (k .2) in
-    rw (p .all) (k .1 ∙ ap (λ (xs : List ℕ). key ++ xs) (p .text) ∙ sym (line-then key (pairsText (p .got)) rest), p .small, p .size)
+    let k = key-written key _ bs t rest e in
+    let p = told _ [] bs (k .0) rest (k .2) in
+    rw (p .all) (k .1 ∙ ap (λ (xs : List ℕ). key ++ xs) (p .text) ∙ sym (line-then key (pairsText (p .got)) rest), p .small, omega (arith, p .size))

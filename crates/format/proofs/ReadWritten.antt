@@ -12,7 +12,8 @@ use Rattle.format.specs.Line.{Form, decimal, hex, Kind, hexText, decimal
 use Rattle.format.proofs.Decimals.{decimal-one, decimal-more}
 use Rattle.format.proofs.Digits.{hex-digit-written, decimal-digit-written}
 use Rattle.format.proofs.Reading.{fault-read, tested, tested-not, next-told, mapped-told}
-use Rattle.format.proofs.WrittenRead.{Fits, FitAll, line-then}
+use Rattle.format.proofs.Fitting.{Fits, FitAll}
+use Rattle.format.proofs.WrittenRead.{line-then}
 
 -- ---- one more digit makes a number's text longer by its byte
 
@@ -45,12 +46,12 @@ newline-told b v w t rest e h = same-cons (eqb-true b newline e) cc
 hex-told : (m n v w : ℕ) (t rest : List ℕ) → readHex m v t ≡ read w rest → v < 16 ^ n
     → (hexText n v ++ t ≡ hexText (n + m) w ++ (newline ∷ rest)) × (w < 16 ^ (n + m))
 unfolding readHex
-hex-told zero n v w [] rest e h = fault-read w rest 1 e
+hex-told zero n v w [] rest e h = fault-read w rest e
 hex-told zero n v w (b ∷ t) rest e h =
     let r = tested w rest (eqb b newline) (read v t) e in
     let p : v ≡ w = cc (r .1) in
     rw (add-zero n, ← p) (ap (λ (xs : List ℕ). hexText n v ++ xs) (newline-told b v w t rest (r .0) (r .1)), h)
-hex-told (suc m) n v w [] rest e h = fault-read w rest 1 e
+hex-told (suc m) n v w [] rest e h = fault-read w rest e
 hex-told (suc m) n v w (b ∷ t) rest e h =
     let r = tested w rest (ltb (hexDigit b) 16) (readHex m (v * 16 + hexDigit b) t) e in
     let d : hexDigit b < 16 = ltb-true (hexDigit b) 16 (r .0) in
@@ -91,12 +92,12 @@ digits-by m v w b t rest false q f e h =
 digits-told : (m v w : ℕ) (t rest : List ℕ) → readDigits m v t ≡ read w rest → v ≤ m
     → (decimalText v ++ t ≡ decimalText w ++ (newline ∷ rest)) × (w ≤ m)
 unfolding readDigits
-digits-told m v w [] rest e h = fault-read w rest 1 e
+digits-told m v w [] rest e h = fault-read w rest e
 digits-told m v w (b ∷ t) rest e h = digits-by m v w b t rest (eqb b newline) refl (λ u g l. digits-told m u w t rest g l) e h
 
 decimal-told : (m w : ℕ) (t rest : List ℕ) → readDecimal m t ≡ read w rest → (t ≡ decimalText w ++ (newline ∷ rest)) × (w ≤ m)
 unfolding readDecimal
-decimal-told m w [] rest e = fault-read w rest 1 e
+decimal-told m w [] rest e = fault-read w rest e
 decimal-told m w (b ∷ t) rest e =
     let r = tested w rest (ltb (decimalDigit b) 10 && leb (decimalDigit b) m) (readDigits m (decimalDigit b) t) e in
     let d : decimalDigit b < 10 = ltb-true _ 10 (and-l (ltb (decimalDigit b) 10) (leb (decimalDigit b) m) (r .0)) in
@@ -117,7 +118,7 @@ pub key-written : {A : Type 0} (key : List ℕ) (f : List ℕ → Read A) (w : A
     → (u : List ℕ) × (t ≡ key ++ u) × (f u ≡ read w rest)
 unfolding afterKey
 key-written [] f w t rest e = (t, refl, e)
-key-written (k ∷ ks) f w [] rest e = fault-read w rest 1 e
+key-written (k ∷ ks) f w [] rest e = fault-read w rest e
 key-written (k ∷ ks) f w (b ∷ t) rest e =
     let r = tested w rest (eqb b k) (afterKey ks f t) e in
     let i = key-written ks f w t rest (r .1) in
@@ -139,7 +140,7 @@ unfolding readLines linesText FitAll
 lines-written [] [] t rest e = (cc, tt)
 lines-written [] (v ∷ vs) t rest e = let z : _≡_ {A = ℕ} 0 1 = cc in absurd (omega arith)
 lines-written (k ∷ ks) vs t rest e =
-    let n = next-told vs rest 1 (readLine k t) (λ v u. mapped (λ ws. v ∷ ws) (readLines ks u)) e in
+    let n = next-told vs rest _ (readLine k t) (λ v u. mapped (λ ws. v ∷ ws) (readLines ks u)) e in
     let v = n .0 in
     let m = mapped-told vs rest (λ ws. v ∷ ws) (readLines ks (n .1)) (n .3) in
     let ws = m .0 in

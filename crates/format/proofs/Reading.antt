@@ -8,30 +8,30 @@ use Rattle.format.specs.Line.{Read, read, faultAt, fault, below, next, m
 
 module _ {A : Type 0} (w : A) (rest : List ℕ) where
   -- a fault is not read
-  pub fault-read : {B : Type 0} (line : ℕ) → faultAt line ≡ read w rest → B
-  fault-read line e = let z : _≡_ {A = ℕ} 0 1 = cc in absurd (omega arith)
+  pub fault-read : {B : Type 0} {line : ℕ} → faultAt line ≡ read w rest → B
+  fault-read e = let z : _≡_ {A = ℕ} 0 1 = cc in absurd (omega arith)
 
   -- a test that must hold
   pub tested : (t : Bool) (r : Read A) → cond t r fault ≡ read w rest → (t ≡ true) × (r ≡ read w rest)
   tested true r e = (refl, e)
-  tested false r e = fault-read 1 e
+  tested false r e = fault-read e
 
   -- a test that must fail
   pub tested-not : (t : Bool) (r : Read A) → cond t fault r ≡ read w rest → (t ≡ false) × (r ≡ read w rest)
-  tested-not true r e = fault-read 1 e
+  tested-not true r e = fault-read e
   tested-not false r e = (refl, e)
 
   below-told : (n : ℕ) (r : Read A) → below n r ≡ read w rest → r ≡ read w rest
   below-told n (read v t) e = e
-  below-told n (faultAt line) e = fault-read _ e
+  below-told n (faultAt line) e = fault-read e
 
   -- lines and what follows them
   pub next-told : {B : Type 0} (n : ℕ) (r : Read B) (f : B → List ℕ → Read A) → next n r f ≡ read w rest
       → (v : B) × (t : List ℕ) × (r ≡ read v t) × (f v t ≡ read w rest)
   next-told n (read v t) f e = (v, t, refl, below-told n (f v t) e)
-  next-told n (faultAt line) f e = fault-read line e
+  next-told n (faultAt line) f e = fault-read e
 
   -- a value made of what was read
   pub mapped-told : {B : Type 0} (f : B → A) (r : Read B) → mapped f r ≡ read w rest → (v : B) × (r ≡ read v rest) × (f v ≡ w)
   mapped-told f (read v t) e = let p : t ≡ rest = cc in (v, rw p, cc)
-  mapped-told f (faultAt line) e = fault-read line e
+  mapped-told f (faultAt line) e = fault-read e

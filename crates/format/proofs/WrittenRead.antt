@@ -7,22 +7,9 @@ use native.Mathlib.Nat.{add-zero, zero-add, pow-suc, not-suc-le-zero}
 use native.Mathlib.Omega.{arith}
 use borrow.Author.Tests.{lt-ltb, le-leb, eq-eqb, ne-eqb}
 use Rattle.format.specs.Line.{Form, decimal, hex, Kind, bytes, digit, hexText, decimalText, valueText, keyedText, lineText, linesText, Read, read, newline, readHex, readDigits, readDecimal, readValue, afterKey, readKeyed, readLines}
+use Rattle.format.proofs.Fitting.{Fits, FitAll}
 use Rattle.format.proofs.Decimals.{below-or-not, decimal-one, decimal-more}
 use Rattle.format.proofs.Digits.{hex-digit-read, decimal-digit-read, digit-no-newline}
-
--- ---- what a form and a list of kinds can hold
-
--- the values that a form can hold
-abbrev pub Fits : Form → ℕ → Type 0
-Fits (decimal largest) v = v ≤ largest
-Fits (hex n) v = v < 16 ^ n
-
--- a value for each kind, each one that its form can hold
-unfoldable pub FitAll : List Kind → List ℕ → Type 0
-FitAll [] [] = Unit
-FitAll [] (v ∷ vs) = ⊥
-FitAll (k ∷ ks) [] = ⊥
-FitAll (k ∷ ks) (v ∷ vs) = Fits (k .form) v × FitAll ks vs
 
 -- ---- hex digits
 

@@ -11,6 +11,7 @@ use Rattle.format.specs.declared.SheetReading.the-variants.{Sheet}
 use Rattle.format.specs.Line.{read}
 use Rattle.format.specs.Sheet.{sheetText, readSheet}
 use Rattle.format.specs.Step.{stepText, readStep}
+use Rattle.format.specs.Plan.{Plan, planText, readPlan}
 
 -- sheets
 pub record SheetRoundTrip : Type 0 where
@@ -37,3 +38,32 @@ pub record Writable (s : Step) : Type 0 where
 pub record StepRoundTrip : Type 0 where
   pub written-read : (s : Step) (rest : List ℕ) → Writable s → readStep (stepText s ++ rest) ≡ read s rest
   pub read-written : (text : List ℕ) (s : Step) (rest : List ℕ) → readStep text ≡ read s rest → (text ≡ stepText s ++ rest) × Writable s
+
+-- what a sheet can hold, valid or not: IDs up to 4294967295, sets of 64 bits, securebits up to 255
+pub record WritableSheet (c : Credentials) : Type 0 where
+  pub real : c .uids .real ≤ 4294967295
+  pub effective-id : c .uids .effective ≤ 4294967295
+  pub saved : c .uids .saved ≤ 4294967295
+  pub filesystem : c .uids .filesystem ≤ 4294967295
+  pub permitted : c .sets .permitted < 2 ^ 64
+  pub inheritable : c .sets .inheritable < 2 ^ 64
+  pub effective : c .sets .effective < 2 ^ 64
+  pub bounding : c .sets .bounding < 2 ^ 64
+  pub ambient : c .sets .ambient < 2 ^ 64
+  pub securebits : c .securebits ≤ 255
+
+-- every step is what a step can hold
+unfoldable pub AllWritable : List Step → Type 0
+AllWritable [] = Unit
+AllWritable (s ∷ ss) = Writable s × AllWritable ss
+
+-- what a plan can hold: such a start, and at most 256 such steps
+pub record WritablePlan (p : Plan) : Type 0 where
+  pub start : WritableSheet (p .start)
+  pub steps : AllWritable (p .steps)
+  pub count : length (p .steps) ≤ 256
+
+-- plans: a text is read as a plan exactly if it is that plan's written form
+pub record PlanRoundTrip : Type 0 where
+  pub written-read : (p : Plan) → WritablePlan p → readPlan (planText p) ≡ read p []
+  pub read-written : (text : List ℕ) (p : Plan) (rest : List ℕ) → readPlan text ≡ read p rest → (text ≡ planText p) × (rest ≡ []) × WritablePlan p

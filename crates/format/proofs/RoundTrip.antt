@@ -1,0 +1,72 @@
+-- Written and read, each from the other: sheets, steps and plans. Assumes nothing.
+use mathlib.Core.Path.{_≡_, refl, sym, ap, _∙_}
+use mathlib.Core.List.{List, [], _∷_, _++_, append-nil}
+use mathlib.Core.Bool.{Bool, true, false, cond}
+use Prim.Native.Nat.{ℕ}
+use native.Mathlib.Omega.{arith}
+use Rattle.credentials.specs.Validity.{valid}
+use Rattle.credentials.specs.declared.Credentials.{Credentials}
+use Rattle.format.specs.declared.SheetReading.the-variants.{Sheet, Invalid}
+use Rattle.format.specs.Line.{Read, read, faultAt, mapped}
+use Rattle.format.specs.Sheet.{sheetText, readFront, wholeSheet, readSheet}
+use Rattle.format.specs.Plan.{Plan, stepsText, planText, MOST-STEPS, readSteps, readPlan}
+use Rattle.format.specs.RoundTrip.{SheetRoundTrip, StepRoundTrip, WritablePlan, PlanRoundTrip}
+use Rattle.format.proofs.Reading.{next-told, mapped-told}
+use Rattle.format.proofs.Sheets.{front-read, front-written, valid-writable}
+use Rattle.format.proofs.Steps.{step-read, step-written, steps-read, steps-written}
+
+-- ---- sheets
+
+sheet-read : (c : Credentials) → valid c ≡ true → readSheet (sheetText c) ≡ Sheet c
+unfolding readSheet
+sheet-read c h =
+    ap (λ (t : List ℕ). wholeSheet (readFront t)) (sym (append-nil (sheetText c)))
+    ∙ ap wholeSheet (front-read c [] (valid-writable c h))
+    ∙ ap (λ (b : Bool). cond b (Sheet c) Invalid) h
+
+valid-told : (d c : Credentials) (b : Bool) → valid d ≡ b → cond b (Sheet d) Invalid ≡ Sheet c → (d ≡ c) × (valid d ≡ true)
+valid-told d c true h e = (cc, h)
+valid-told d c false h e = let z : _≡_ {A = ℕ} 0 1 = cc in absurd (omega arith)
+
+whole-told : (text : List ℕ) (c : Credentials) (r : Read Credentials) → readFront text ≡ r → wholeSheet r ≡ Sheet c
+    → (text ≡ sheetText c) × (valid c ≡ true)
+whole-told text c (read d []) q e =
+    let v = valid-told d c (valid d) refl e in
+    let f = front-written d text [] q in
+    rw (← (v .0)) (f .0 ∙ append-nil (sheetText d), v .1)
+whole-told text c (read d (b ∷ t)) q e = let z : _≡_ {A = ℕ} 0 1 = cc in absurd (omega arith)
+whole-told text c (faultAt line) q e = let z : _≡_ {A = ℕ} 0 1 = cc in absurd (omega arith)
+
+sheet-written : (text : List ℕ) (c : Credentials) → readSheet text ≡ Sheet c → (text ≡ sheetText c) × (valid c ≡ true)
+unfolding readSheet
+sheet-written text c e = whole-told text c (readFront text) refl e
+
+pub sheet-round-trip : SheetRoundTrip
+sheet-round-trip = record { written-read = sheet-read; read-written = sheet-written }
+
+-- ---- steps
+
+pub step-round-trip : StepRoundTrip
+step-round-trip = record { written-read = step-read; read-written = step-written }
+
+-- ---- plans
+
+plan-read : (p : Plan) → WritablePlan p → readPlan (planText p) ≡ read p []
+unfolding readPlan planText
+plan-read p w = rw (front-read (p .start) (stepsText (p .steps)) (w .start), steps-read MOST-STEPS (p .steps) (w .steps) (omega (arith, w .count)))
+
+plan-written : (text : List ℕ) (p : Plan) (rest : List ℕ) → readPlan text ≡ read p rest → (text ≡ planText p) × (rest ≡ []) × WritablePlan p
+unfolding readPlan planText
+plan-written text p rest e =
+    let n = next-told p rest _ (readFront text) (λ c t. mapped (λ ss. record { start = c; steps = ss }) (readSteps MOST-STEPS t)) e in
+    let m = mapped-told p rest (λ ss. record { start = n .0; steps = ss }) (readSteps MOST-STEPS (n .1)) (n .3) in
+    let f = front-written (n .0) text (n .1) (n .2) in
+    let s = steps-written MOST-STEPS (m .0) (n .1) rest (m .1) in
+    rw (← (m .2)) (
+      f .0 ∙ ap (λ (t : List ℕ). sheetText (n .0) ++ t) (s .0),
+      s .1,
+      record { start = f .1; steps = s .2; count = omega (arith, s .3) },
+    )
+
+pub plan-round-trip : PlanRoundTrip
+plan-round-trip = record { written-read = plan-read; read-written = plan-written }
