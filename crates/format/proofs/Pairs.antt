@@ -9,7 +9,7 @@ use borrow.Author.Tests.{ltb-true, lt-ltb, ne-eqb}
 use lib.Dec.{ltb, eqb}
 use lib.ListN.{length}
 use Rattle.capabilities.proofs.Inclusion.{and-l, and-r}
-use Rattle.format.specs.Line.{bytes, digit, hexText, read, fault, hexDigit, newline}
+use Rattle.format.specs.Line.{keyedText, digit, hexText, read, fault, hexDigit, newline}
 use Rattle.format.specs.Step.{pairsText, readPairs, readAttribute}
 use Rattle.format.specs.RoundTrip.{Bytes}
 use Rattle.format.proofs.Digits.{hex-digit-read, hex-digit-written, digit-no-newline}
@@ -50,7 +50,7 @@ pairs-read (suc n) front (b ∷ bs) t h l =
     ∙ ap (λ (xs : List ℕ). read xs t) (append-assoc front (b ∷ []) bs))
 
 -- a written attribute
-pub attribute-read : (key bs t : List ℕ) → Bytes bs → length bs ≤ 24 → readAttribute key ((key ++ (pairsText bs ++ bytes "\n")) ++ t) ≡ read bs t
+pub attribute-read : (key bs t : List ℕ) → Bytes bs → length bs ≤ 24 → readAttribute key (keyedText key (pairsText bs) ++ t) ≡ read bs t
 attribute-read key bs t h l =
     ap (readAttribute key) (line-then key (pairsText bs) t)
     ∙ key-read key _ (pairsText bs ++ (newline ∷ t))
@@ -116,7 +116,7 @@ told (suc n) front w (b ∷ c ∷ t) rest e = told-by n b c front w t rest (eqb 
 
 -- an attribute that is read
 pub attribute-written : (key bs t rest : List ℕ) → readAttribute key t ≡ read bs rest
-    → (t ≡ (key ++ (pairsText bs ++ bytes "\n")) ++ rest) × Bytes bs × (length bs ≤ 24)
+    → (t ≡ keyedText key (pairsText bs) ++ rest) × Bytes bs × (length bs ≤ 24)
 attribute-written key bs t rest e =
     let k = key-written key _ bs t rest e in
     let p = told _ [] bs (k .0) rest (k .2) in

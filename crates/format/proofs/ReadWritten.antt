@@ -127,8 +127,7 @@ key-written (k ∷ ks) f w (b ∷ t) rest e =
 
 -- a line that is read
 pub keyed-written : (key : List ℕ) (f : Form) (w : ℕ) (t rest : List ℕ) → readKeyed key f t ≡ read w rest
-    → (t ≡ keyedText key f w ++ rest) × Fits f w
-unfolding keyedText
+    → (t ≡ keyedText key (valueText f w) ++ rest) × Fits f w
 keyed-written key f w t rest e =
     let k = key-written key (readValue f) w t rest e in
     let v = value-written f w (k .0) rest (k .2) in

@@ -35,7 +35,7 @@ values-written vs bs h small size =
 
 -- a written step
 pub step-read : (s : Step) (rest : List ℕ) → Writable s → readStep (stepText s ++ rest) ≡ read s rest
-unfolding readStep stepText attributeText
+unfolding readStep stepText
 step-read s rest w =
     rw (
       append-assoc (linesText stepKinds (stepValues s)) (attributeText (s .attribute)) rest,
@@ -45,7 +45,7 @@ step-read s rest w =
 
 -- a step that is read
 pub step-written : (text : List ℕ) (s : Step) (rest : List ℕ) → readStep text ≡ read s rest → (text ≡ stepText s ++ rest) × Writable s
-unfolding readStep stepText attributeText
+unfolding readStep stepText
 step-written text s rest e =
     let n = next-told s rest _ (readLines stepKinds text) (λ vs t. mapped (stepOf vs) (readAttribute attributeKey t)) e in
     let m = mapped-told s rest (stepOf (n .0)) (readAttribute attributeKey (n .1)) (n .3) in

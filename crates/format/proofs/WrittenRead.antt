@@ -76,13 +76,13 @@ key-read [] f t = refl
 key-read (k ∷ ks) f t = rw (eq-eqb k k refl) (key-read ks f t)
 
 -- the text after a line's newline, bracketed as it is read
-pub line-then : (key middle t : List ℕ) → (key ++ (middle ++ bytes "\n")) ++ t ≡ key ++ (middle ++ (newline ∷ t))
+pub line-then : (key middle t : List ℕ) → keyedText key middle ++ t ≡ key ++ (middle ++ (newline ∷ t))
+unfolding keyedText
 line-then key middle t =
     append-assoc key (middle ++ bytes "\n") t ∙ ap (λ (xs : List ℕ). key ++ xs) (append-assoc middle (bytes "\n") t)
 
 -- a written line
-pub keyed-read : (key : List ℕ) (f : Form) (v : ℕ) (t : List ℕ) → Fits f v → readKeyed key f (keyedText key f v ++ t) ≡ read v t
-unfolding keyedText
+pub keyed-read : (key : List ℕ) (f : Form) (v : ℕ) (t : List ℕ) → Fits f v → readKeyed key f (keyedText key (valueText f v) ++ t) ≡ read v t
 keyed-read key f v t h =
     ap (readKeyed key f) (line-then key (valueText f v) t)
     ∙ key-read key (readValue f) (valueText f v ++ (newline ∷ t))
