@@ -1,2 +1,3 @@
 pub mod LineLaws
 pub mod Pairs
+pub mod Answers
