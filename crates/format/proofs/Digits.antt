@@ -11,6 +11,7 @@ use Rattle.format.proofs.Decimals.{below-or-not}
 
 -- ---- a number's digit is read as the number
 
+-- in hex
 pub hex-digit-read : (d : ℕ) → d < 16 → hexDigit (digit d) ≡ d
 hex-digit-read d h =
     ⊎-elim
@@ -26,6 +27,7 @@ hex-digit-read d h =
     (omega arith))
     (below-or-not d 10)
 
+-- in decimal
 pub decimal-digit-read : (d : ℕ) → d < 10 → decimalDigit (digit d) ≡ d
 decimal-digit-read d h = simp (lt-ltb d 10 h, le-ltb (48 + d) 48 (omega arith), lt-ltb (48 + d) 58 (omega arith)) (omega arith)
 
@@ -39,22 +41,27 @@ digit-no-newline d e =
 
 -- ---- a byte that is read as a digit is the digit of its number
 
-pub hex-digit-written : (b : ℕ) → hexDigit b < 16 → digit (hexDigit b) ≡ b
-hex-digit-written b = by (ltb b 48) (ltb b 58) (ltb b 97) (ltb b 103) refl refl refl refl
-  where
-    by : (p q r s : Bool) → ltb b 48 ≡ p → ltb b 58 ≡ q → ltb b 97 ≡ r → ltb b 103 ≡ s
-        → cond p 16 (cond q (b - 48) (cond r 16 (cond s (b - 87) 16))) < 16
-        → digit (cond p 16 (cond q (b - 48) (cond r 16 (cond s (b - 87) 16)))) ≡ b
-    by true q r s e f g i h = absurd (omega arith)
-    by false true r s e f g i h = simp (lt-ltb (b - 48) 10 (omega (arith, ltb-true b 58 f))) (omega (arith, ltb-false b 48 e))
-    by false false true s e f g i h = absurd (omega arith)
-    by false false false true e f g i h = simp (le-ltb (b - 87) 10 (omega (arith, ltb-false b 97 g))) (omega (arith, ltb-false b 97 g))
-    by false false false false e f g i h = absurd (omega arith)
+-- by the test that a number depends on
+by-test : (P : ℕ → Type 0) (t : Bool) (x y : ℕ) → (t ≡ true → P x) → (t ≡ false → P y) → P (cond t x y)
+by-test P true x y f g = f refl
+by-test P false x y f g = g refl
 
+-- what is to hold of the number d that a byte is read as
+abbrev Written : ℕ → ℕ → ℕ → Type 0
+Written base b d = d < base → digit d ≡ b
+
+-- in hex
+pub hex-digit-written : (b : ℕ) → hexDigit b < 16 → digit (hexDigit b) ≡ b
+hex-digit-written b =
+    by-test (Written 16 b) (ltb b 48) _ _ (λ p h. absurd (omega arith)) λ p.
+    by-test (Written 16 b) (ltb b 58) _ _ (λ q h. simp (lt-ltb (b - 48) 10 (omega (arith, ltb-true b 58 q))) (omega (arith, ltb-false b 48 p))) λ q.
+    by-test (Written 16 b) (ltb b 97) _ _ (λ r h. absurd (omega arith)) λ r.
+    by-test (Written 16 b) (ltb b 103) _ _ (λ s h. simp (le-ltb (b - 87) 10 (omega (arith, ltb-false b 97 r))) (omega (arith, ltb-false b 97 r))) λ s h.
+    absurd (omega arith)
+
+-- in decimal
 pub decimal-digit-written : (b : ℕ) → decimalDigit b < 10 → digit (decimalDigit b) ≡ b
-decimal-digit-written b = by (ltb b 48) (ltb b 58) refl refl
-  where
-    by : (p q : Bool) → ltb b 48 ≡ p → ltb b 58 ≡ q → cond p 10 (cond q (b - 48) 10) < 10 → digit (cond p 10 (cond q (b - 48) 10)) ≡ b
-    by true q e f h = absurd (omega arith)
-    by false true e f h = simp (lt-ltb (b - 48) 10 (omega (arith, ltb-true b 58 f))) (omega (arith, ltb-false b 48 e))
-    by false false e f h = absurd (omega arith)
+decimal-digit-written b =
+    by-test (Written 10 b) (ltb b 48) _ _ (λ p h. absurd (omega arith)) λ p.
+    by-test (Written 10 b) (ltb b 58) _ _ (λ q h. simp (lt-ltb (b - 48) 10 (omega (arith, ltb-true b 58 q))) (omega (arith, ltb-false b 48 p))) λ q h.
+    absurd (omega arith)

@@ -1,7 +1,7 @@
 -- An attribute's line, two hex digits a byte: written and read, each from the other. Assumes nothing.
 use mathlib.Core.Path.{_≡_, refl, sym, ap, _∙_}
 use mathlib.Core.List.{List, [], _∷_, _++_, append-assoc, append-nil}
-use mathlib.Core.Bool.{Bool, true, false, cond, _&&_}
+use mathlib.Core.Bool.{true, _&&_}
 use Prim.Native.Nat.{ℕ, zero, suc, _+_, _*_, _/_, _%_, _<_, _≤_}
 use native.Mathlib.Nat.{not-suc-le-zero}
 use native.Mathlib.Omega.{arith}
@@ -9,11 +9,11 @@ use borrow.Author.Tests.{ltb-true, lt-ltb, ne-eqb}
 use lib.Dec.{ltb, eqb}
 use lib.ListN.{length}
 use Rattle.capabilities.proofs.Inclusion.{and-l, and-r}
-use Rattle.format.specs.Line.{keyedText, digit, hexText, read, fault, hexDigit, newline}
+use Rattle.format.specs.Line.{keyedText, digit, hexText, read, hexDigit, newline}
 use Rattle.format.specs.Step.{pairsText, readPairs, readAttribute}
 use Rattle.format.specs.RoundTrip.{Bytes}
 use Rattle.format.proofs.Digits.{hex-digit-read, hex-digit-written, digit-no-newline}
-use Rattle.format.proofs.Reading.{fault-read, tested}
+use Rattle.format.proofs.Reading.{fault-read, tested, tested-cases}
 use Rattle.format.proofs.WrittenRead.{key-read, line-then}
 use Rattle.format.proofs.ReadWritten.{key-written, newline-told}
 
@@ -78,19 +78,12 @@ told-end n b front w t rest q e =
     let p : front ≡ w = cc in
     record { got = []; all = sym p ∙ sym (append-nil front); text = newline-told b front w t rest q e; small = tt; size = omega arith }
 
-told-by : (n b c : ℕ) (front w t rest : List ℕ) (s : Bool) → eqb b newline ≡ s
-    → ((u : List ℕ) → readPairs n u t ≡ read w rest → Told n u w t rest)
-    → cond s (read front (c ∷ t))
-    (cond (ltb (hexDigit b) 16 && ltb (hexDigit c) 16) (readPairs n (front ++ ((hexDigit b * 16 + hexDigit c) ∷ [])) t) fault) ≡ read w rest
+told-one : (n b c : ℕ) (front w t rest : List ℕ) → hexDigit b < 16 → hexDigit c < 16
+    → Told n (front ++ ((hexDigit b * 16 + hexDigit c) ∷ [])) w t rest
     → Told (suc n) front w (b ∷ c ∷ t) rest
 unfolding pairsText Bytes
-told-by n b c front w t rest true q f e = told-end (suc n) b front w (c ∷ t) rest q e
-told-by n b c front w t rest false q f e =
+told-one n b c front w t rest h g i =
     let x = hexDigit b * 16 + hexDigit c in
-    let r = tested w rest (ltb (hexDigit b) 16 && ltb (hexDigit c) 16) (readPairs n (front ++ (x ∷ [])) t) e in
-    let h : hexDigit b < 16 = ltb-true _ 16 (and-l (ltb (hexDigit b) 16) (ltb (hexDigit c) 16) (r .0)) in
-    let g : hexDigit c < 16 = ltb-true _ 16 (and-r (ltb (hexDigit b) 16) (ltb (hexDigit c) 16) (r .0)) in
-    let i = f (front ++ (x ∷ [])) (r .1) in
     record {
       got = x ∷ i .got;
       all = i .all ∙ append-assoc front (x ∷ []) (i .got);
@@ -112,7 +105,14 @@ told (suc n) front w [] rest e = fault-read w rest e
 told (suc n) front w (b ∷ []) rest e =
     let r = tested w rest (eqb b newline) (read front []) e in
     told-end (suc n) b front w [] rest (r .0) (r .1)
-told (suc n) front w (b ∷ c ∷ t) rest e = told-by n b c front w t rest (eqb b newline) refl (λ u g. told n u w t rest g) e
+told (suc n) front w (b ∷ c ∷ t) rest e =
+    tested-cases w rest (eqb b newline) (read front (c ∷ t)) _ e
+    (λ q g. told-end (suc n) b front w (c ∷ t) rest q g)
+    (λ q g.
+    let r = tested w rest (ltb (hexDigit b) 16 && ltb (hexDigit c) 16) _ g in
+    let h : hexDigit b < 16 = ltb-true _ 16 (and-l (ltb (hexDigit b) 16) (ltb (hexDigit c) 16) (r .0)) in
+    let k : hexDigit c < 16 = ltb-true _ 16 (and-r (ltb (hexDigit b) 16) (ltb (hexDigit c) 16) (r .0)) in
+    told-one n b c front w t rest h k (told n _ w t rest (r .1)))
 
 -- an attribute that is read
 pub attribute-written : (key bs t rest : List ℕ) → readAttribute key t ≡ read bs rest

@@ -1,17 +1,17 @@
 -- A text that is read is the one written for what it is read as: digits, a value, a keyed line, lines. Assumes nothing.
 use mathlib.Core.Path.{_≡_, refl, sym, ap, _∙_}
 use mathlib.Core.List.{List, [], _∷_, _++_, append-assoc}
-use mathlib.Core.Bool.{Bool, true, false, cond, _&&_}
+use mathlib.Core.Bool.{true, _&&_}
 use Prim.Native.Nat.{ℕ, zero, suc, _+_, _*_, _/_, _%_, _^_, _<_, _≤_}
 use native.Mathlib.Nat.{add-zero, zero-add, pow-suc}
 use native.Mathlib.Omega.{arith}
 use borrow.Author.Tests.{ltb-true, leb-true, eqb-true, eqb-false}
 use lib.Dec.{ltb, leb, eqb}
 use Rattle.capabilities.proofs.Inclusion.{and-l, and-r}
-use Rattle.format.specs.Line.{Form, decimal, hex, Kind, hexText, decimalText, valueText, keyedText, keyText, lineText, linesText, Read, read, fault, mapped, hexDigit, decimalDigit, newline, readHex, readDigits, readDecimal, readValue, afterKey, readKeyed, readLine, readLines}
+use Rattle.format.specs.Line.{Form, decimal, hex, Kind, hexText, decimalText, valueText, keyedText, keyText, lineText, linesText, Read, read, mapped, hexDigit, decimalDigit, newline, readHex, readDigits, readDecimal, readValue, afterKey, readKeyed, readLine, readLines}
 use Rattle.format.proofs.Decimals.{decimal-one, decimal-more}
 use Rattle.format.proofs.Digits.{hex-digit-written, decimal-digit-written}
-use Rattle.format.proofs.Reading.{fault-read, tested, tested-not, next-told, mapped-told}
+use Rattle.format.proofs.Reading.{fault-read, tested, tested-not, tested-cases, next-told, mapped-told}
 use Rattle.format.proofs.Fitting.{Fits, FitAll}
 use Rattle.format.proofs.WrittenRead.{line-then}
 
@@ -59,41 +59,33 @@ hex-told (suc m) n v w (b ∷ t) rest e h =
     let i = hex-told m (suc n) (v * 16 + hexDigit b) w t rest (r .1) (rw pow-suc (omega arith)) in
     rw (← sum) (moved (hexText n v) _ t b (hex-grows n v b d) ∙ i .0, i .1)
 
--- no digit has been read yet
+-- where no digit was read before
 hex-whole : (n w : ℕ) (t rest : List ℕ) → (hexText 0 0 ++ t ≡ hexText (0 + n) w ++ (newline ∷ rest)) × (w < 16 ^ (0 + n))
     → (t ≡ hexText n w ++ (newline ∷ rest)) × (w < 16 ^ n)
 unfolding hexText
 hex-whole n w t rest h = rw zero-add at h
 
--- the byte after the digits of v is a newline, or one more digit, with which the reading goes on
-digits-by : (m v w b : ℕ) (t rest : List ℕ) (s : Bool) → eqb b newline ≡ s
-    → ((u : ℕ) → readDigits m u t ≡ read w rest → u ≤ m → (decimalText u ++ t ≡ decimalText w ++ (newline ∷ rest)) × (w ≤ m))
-    → cond s (read v t)
-    (cond (eqb v 0) fault
-    (cond (ltb (decimalDigit b) 10 && leb (v * 10 + decimalDigit b) m) (readDigits m (v * 10 + decimalDigit b) t) fault)) ≡ read w rest
-    → v ≤ m
-    → (decimalText v ++ (b ∷ t) ≡ decimalText w ++ (newline ∷ rest)) × (w ≤ m)
-digits-by m v w b t rest true q f e h =
-    let p : v ≡ w = cc in
-    rw (← p) (ap (λ (xs : List ℕ). decimalText v ++ xs) (newline-told b v w t rest q e), h)
-digits-by m v w b t rest false q f e h =
-    let more = tested-not w rest (eqb v 0) _ e in
-    let r = tested w rest (ltb (decimalDigit b) 10 && leb (v * 10 + decimalDigit b) m) (readDigits m (v * 10 + decimalDigit b) t) (more .1) in
-    let d : decimalDigit b < 10 = ltb-true _ 10 (and-l (ltb (decimalDigit b) 10) (leb (v * 10 + decimalDigit b) m) (r .0)) in
-    let l : v * 10 + decimalDigit b ≤ m = leb-true _ m (and-r (ltb (decimalDigit b) 10) (leb (v * 10 + decimalDigit b) m) (r .0)) in
-    let i = f (v * 10 + decimalDigit b) (r .1) l in
-    let p : 0 < v = positive v (eqb-false v 0 (more .0)) in
-    (moved (decimalText v) _ t b (decimal-grows v b p d) ∙ i .0, i .1)
-  where
-    positive : (n : ℕ) → (n ≡ 0 → ⊥) → 0 < n
-    positive zero g = absurd (g refl)
-    positive (suc n) g = omega arith
+positive : (n : ℕ) → (n ≡ 0 → ⊥) → 0 < n
+positive zero g = absurd (g refl)
+positive (suc n) g = omega arith
 
+-- the byte after the digits of v is a newline, or one more digit
 digits-told : (m v w : ℕ) (t rest : List ℕ) → readDigits m v t ≡ read w rest → v ≤ m
     → (decimalText v ++ t ≡ decimalText w ++ (newline ∷ rest)) × (w ≤ m)
 unfolding readDigits
 digits-told m v w [] rest e h = fault-read w rest e
-digits-told m v w (b ∷ t) rest e h = digits-by m v w b t rest (eqb b newline) refl (λ u g l. digits-told m u w t rest g l) e h
+digits-told m v w (b ∷ t) rest e h =
+    tested-cases w rest (eqb b newline) (read v t) _ e
+    (λ q g.
+    let p : v ≡ w = cc g in
+    rw (← p) (ap (λ (xs : List ℕ). decimalText v ++ xs) (newline-told b v w t rest q g), h))
+    (λ q g.
+    let more = tested-not w rest _ _ g in
+    let r = tested w rest _ _ (more .1) in
+    let d : decimalDigit b < 10 = ltb-true _ 10 (and-l (ltb (decimalDigit b) 10) (leb (v * 10 + decimalDigit b) m) (r .0)) in
+    let l : v * 10 + decimalDigit b ≤ m = leb-true _ m (and-r (ltb (decimalDigit b) 10) (leb (v * 10 + decimalDigit b) m) (r .0)) in
+    let i = digits-told m (v * 10 + decimalDigit b) w t rest (r .1) l in
+    (moved (decimalText v) _ t b (decimal-grows v b (positive v (eqb-false v 0 (more .0))) d) ∙ i .0, i .1))
 
 decimal-told : (m w : ℕ) (t rest : List ℕ) → readDecimal m t ≡ read w rest → (t ≡ decimalText w ++ (newline ∷ rest)) × (w ≤ m)
 unfolding readDecimal
@@ -136,8 +128,7 @@ keyed-written key f w t rest e =
 -- lines that are read
 pub lines-written : (ks : List Kind) (vs t rest : List ℕ) → readLines ks t ≡ read vs rest → (t ≡ linesText ks vs ++ rest) × FitAll ks vs
 unfolding readLines linesText FitAll
-lines-written [] [] t rest e = (cc, tt)
-lines-written [] (v ∷ vs) t rest e = let z : _≡_ {A = ℕ} 0 1 = cc in absurd (omega arith)
+lines-written [] vs t rest e = let p : [] ≡ vs = cc in rw (← p) (cc, tt)
 lines-written (k ∷ ks) vs t rest e =
     let n = next-told vs rest _ (readLine k t) (λ v u. mapped (λ ws. v ∷ ws) (readLines ks u)) e in
     let v = n .0 in

@@ -21,6 +21,13 @@ module _ {A : Type 0} (w : A) (rest : List ℕ) where
   tested-not true r e = fault-read e
   tested-not false r e = (refl, e)
 
+  -- a test on which it depends how the reading went on
+  pub tested-cases : {B : Type 0} (t : Bool) (r s : Read A) → cond t r s ≡ read w rest → (t ≡ true → r ≡ read w rest → B)
+      → (t ≡ false → s ≡ read w rest → B)
+      → B
+  tested-cases true r s e f g = f refl e
+  tested-cases false r s e f g = g refl e
+
   below-told : (n : ℕ) (r : Read A) → below n r ≡ read w rest → r ≡ read w rest
   below-told n (read v t) e = e
   below-told n (faultAt line) e = fault-read e

@@ -41,11 +41,13 @@ sheet-written : (text : List ℕ) (c : Credentials) → readSheet text ≡ Sheet
 unfolding readSheet
 sheet-written text c e = whole-told text c (readFront text) refl e
 
+-- a sheet's text and valid credentials
 pub sheet-round-trip : SheetRoundTrip
 sheet-round-trip = record { written-read = sheet-read; read-written = sheet-written }
 
 -- ---- steps
 
+-- the text that begins with a step, and the step
 pub step-round-trip : StepRoundTrip
 step-round-trip = record { written-read = step-read; read-written = step-written }
 
@@ -68,5 +70,6 @@ plan-written text p rest e =
       record { start = f .1; steps = s .2; count = omega (arith, s .3) },
     )
 
+-- a plan's text and the plan
 pub plan-round-trip : PlanRoundTrip
 plan-round-trip = record { written-read = plan-read; read-written = plan-written }

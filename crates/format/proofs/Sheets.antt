@@ -52,11 +52,8 @@ values-written vs h =
     let at : ℕ → ℕ = λ i. getD vs i 0 in
     let e : vs ≡ placed sheetKinds at = placed-same sheetKinds vs h in
     let fit : FitAll sheetKinds (placed sheetKinds at) = subst (FitAll sheetKinds) e h in
-    let flag : at 10 ≤ 1 = omega (arith, fit) in (
-      e
-          ∙ ap (λ (x : ℕ). at 0 ∷ at 1 ∷ at 2 ∷ at 3 ∷ at 4 ∷ at 5 ∷ at 6 ∷ at 7 ∷ at 8 ∷ at 9 ∷ x ∷ []) (flag-written (at 10) flag),
-      omega (arith, fit),
-    )
+    let flag : at 10 ≡ number (eqb (at 10) 1) = flag-written (at 10) (omega (arith, fit)) in
+    (e ∙ ap (λ (x : ℕ). at 0 ∷ at 1 ∷ at 2 ∷ at 3 ∷ at 4 ∷ at 5 ∷ at 6 ∷ at 7 ∷ at 8 ∷ at 9 ∷ x ∷ []) flag, omega (arith, fit))
 
 -- ---- the sheet
 

@@ -1,7 +1,7 @@
 -- A text that begins with steps: written and read, each from the other. Assumes nothing.
 use mathlib.Core.Path.{_≡_, refl, sym, ap, _∙_, subst}
 use mathlib.Core.List.{List, [], _∷_, _++_, append-assoc}
-use Prim.Native.Nat.{ℕ, zero, suc, _≤_}
+use Prim.Native.Nat.{ℕ, zero, suc, _^_, _<_, _≤_}
 use native.Mathlib.Nat.{not-suc-le-zero}
 use native.Mathlib.Omega.{arith}
 use lib.ListN.{length, getD}
@@ -24,14 +24,15 @@ stepValues s = s .number ∷ s .a ∷ s .b ∷ s .c ∷ []
 
 values-fit : (s : Step) → Writable s → FitAll stepKinds (stepValues s)
 unfolding FitAll stepKinds
-values-fit s w = (w .number, (w .a, (w .b, (w .c, tt))))
+values-fit s w = omega (arith, w .number, w .a, w .b, w .c)
 
 values-written : (vs bs : List ℕ) → FitAll stepKinds vs → Bytes bs → length bs ≤ 24 → (vs ≡ stepValues (stepOf vs bs)) × Writable (stepOf vs bs)
 unfolding placed FitAll stepKinds
 values-written vs bs h small size =
     let e : vs ≡ placed stepKinds (λ i. getD vs i 0) = placed-same stepKinds vs h in
     let fit : FitAll stepKinds (placed stepKinds (λ i. getD vs i 0)) = subst (FitAll stepKinds) e h in
-    (e, record { number = fit .0; a = fit .1 .0; b = fit .1 .1 .0; c = fit .1 .1 .1 .0; size = size; bytes = small })
+    let numbers : (getD vs 0 0 ≤ 99) × (getD vs 1 0 < 2 ^ 64) × (getD vs 2 0 < 2 ^ 64) × (getD vs 3 0 < 2 ^ 64) = omega (arith, fit) in
+    (e, record { number = numbers .0; a = numbers .1; b = numbers .2; c = numbers .3; size = size; bytes = small })
 
 -- a written step
 pub step-read : (s : Step) (rest : List ℕ) → Writable s → readStep (stepText s ++ rest) ≡ read s rest
@@ -52,18 +53,18 @@ step-written text s rest e =
     let l = lines-written stepKinds (n .0) text (n .1) (n .2) in
     let a = attribute-written attributeKey (m .0) (n .1) rest (m .1) in
     let v = values-written (n .0) (m .0) (l .1) (a .1) (a .2) in
-    rw (← (m .2)) (
-      l .0
-          ∙ ap (λ (t : List ℕ). linesText stepKinds (n .0) ++ t) (a .0)
-          ∙ ap (λ (vs : List ℕ). linesText stepKinds vs ++ (attributeText (m .0) ++ rest)) (v .0)
-          ∙ sym (append-assoc (linesText stepKinds (stepValues (stepOf (n .0) (m .0)))) (attributeText (m .0)) rest),
-      v .1,
-    )
+    let whole =
+    l .0
+    ∙ ap (λ (t : List ℕ). linesText stepKinds (n .0) ++ t) (a .0)
+    ∙ ap (λ (vs : List ℕ). linesText stepKinds vs ++ (attributeText (m .0) ++ rest)) (v .0)
+    ∙ sym (append-assoc (linesText stepKinds (stepValues (stepOf (n .0) (m .0)))) (attributeText (m .0)) rest) in
+    rw (← (m .2)) (whole, v .1)
 
 -- ---- steps to the end of the text
 
 -- a step that is read, and the steps after it
-steps-one : (n : ℕ) (s : Step) (ss : List Step) (t u : List ℕ) → readStep t ≡ read s u → readSteps n u ≡ read ss [] → readSteps (suc n) t ≡ read (s ∷ ss) []
+steps-one : (n : ℕ) (s : Step) (ss : List Step) (t u : List ℕ) → readStep t ≡ read s u → readSteps n u ≡ read ss []
+    → readSteps (suc n) t ≡ read (s ∷ ss) []
 unfolding readSteps readStep readLines stepKinds afterKey
 steps-one n s ss [] u e i = fault-read s u e
 steps-one n s ss (b ∷ t) u e i = rw (e, i)
@@ -83,10 +84,10 @@ Told n ss t rest = (t ≡ stepsText ss) × (rest ≡ []) × AllWritable ss × (l
 
 none-told : (n : ℕ) (ss : List Step) (rest : List ℕ) → read [] [] ≡ read ss rest → Told n ss [] rest
 unfolding stepsText AllWritable
-none-told n [] rest e = (refl, cc, tt, omega arith)
-none-told n (s ∷ ss) rest e = let z : _≡_ {A = ℕ} 0 1 = cc in absurd (omega arith)
+none-told n ss rest e = let p : [] ≡ ss = cc in rw (← p) (refl, cc, tt, omega arith)
 
-some-told : (n : ℕ) (s : Step) (ss : List Step) (t u rest : List ℕ) → (t ≡ stepText s ++ u) × Writable s → Told n ss u rest → Told (suc n) (s ∷ ss) t rest
+some-told : (n : ℕ) (s : Step) (ss : List Step) (t u rest : List ℕ) → (t ≡ stepText s ++ u) × Writable s → Told n ss u rest
+    → Told (suc n) (s ∷ ss) t rest
 unfolding stepsText AllWritable
 some-told n s ss t u rest h i = (h .0 ∙ ap (λ (xs : List ℕ). stepText s ++ xs) (i .0), i .1, (h .1, i .2), omega (arith, i .3))
 

@@ -11,12 +11,37 @@ use Rattle.rules.specs.Decoding.{usesOne, known, decode}
 use Rattle.rules.specs.Call.{answer}
 use Rattle.rules.specs.Run.{result, run, lastOf}
 use Rattle.format.specs.Line.{hexText, decimalOf, decimalText, keyedText, linesText, readHex, readDigits, readDecimal, afterKey, readLines}
-use Rattle.format.specs.Sheet.{idKinds, setKinds, flagKinds, sheetKinds, sheetText, readFront}
+use Rattle.format.specs.Sheet.{idKinds, setKinds, flagKinds, sheetKinds, sheetText, readFront, readSheet, sheetAnswer, sheetBuffer}
 use Rattle.format.specs.Step.{stepKinds, readPairs, readStep}
 use Rattle.format.specs.Plan.{readSteps, readPlan}
 use Rattle.format.specs.Report.{resultKinds, resultText, resultsText, reportText, verdict}
 use Rattle.format.specs.Texts.{TextsHold, times, table, found, wanted}
 
 pub texts-hold : TextsHold
-unfolding ambientIsSet ambientClearAll has lacks minus single outside wordAt fileOf lengthOf reading unreadable version1 version2 valid number ignoresSetId ignoresAttribute fileRead inForce effectiveId launchedIds rootCounts countedSet counted isPrivileged launchedAmbient gained launchedEffective launchedSets fallsShort launched launch usesOne known decode answer result run lastOf hexText decimalOf decimalText keyedText linesText readHex readDigits readDecimal afterKey readLines idKinds setKinds flagKinds sheetKinds sheetText readFront stepKinds readPairs readStep readSteps readPlan resultKinds resultText resultsText reportText verdict times table found wanted
-texts-hold = refl
+unfolding readSheet sheetAnswer sheetBuffer ambientIsSet ambientClearAll has lacks minus single outside wordAt fileOf lengthOf reading unreadable version1 version2 valid number ignoresSetId ignoresAttribute fileRead inForce effectiveId launchedIds rootCounts countedSet counted isPrivileged launchedAmbient gained launchedEffective launchedSets fallsShort launched launch usesOne known decode answer result run lastOf hexText decimalOf decimalText keyedText linesText readHex readDigits readDecimal afterKey readLines idKinds setKinds flagKinds sheetKinds sheetText readFront stepKinds readPairs readStep readSteps readPlan resultKinds resultText resultsText reportText verdict times table found wanted
+texts-hold =
+    record {
+      rows = refl;
+      sheet = refl;
+      past-the-sheet = refl;
+      past-an-invalid-sheet = refl;
+      not-valid = refl;
+      second-line = refl;
+      codes = refl;
+      lines = refl;
+      written = refl;
+      written-buffer = refl;
+      no-room = refl;
+      no-room-buffer = refl;
+      not-valid-written = refl;
+      not-valid-buffer = refl;
+      done = refl;
+      done-buffer = refl;
+      one-short = refl;
+      one-short-buffer = refl;
+      at-fault = refl;
+      at-fault-buffer = refl;
+      invalid-start = refl;
+      invalid-buffer = refl;
+      numbers = refl;
+    }

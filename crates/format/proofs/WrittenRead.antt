@@ -7,9 +7,9 @@ use native.Mathlib.Nat.{add-zero, zero-add, pow-suc, not-suc-le-zero}
 use native.Mathlib.Omega.{arith}
 use borrow.Author.Tests.{lt-ltb, le-leb, eq-eqb, ne-eqb}
 use Rattle.format.specs.Line.{Form, decimal, hex, Kind, bytes, digit, hexText, decimalText, valueText, keyedText, lineText, linesText, Read, read, newline, readHex, readDigits, readDecimal, readValue, afterKey, readKeyed, readLines}
-use Rattle.format.proofs.Fitting.{Fits, FitAll}
 use Rattle.format.proofs.Decimals.{below-or-not, decimal-one, decimal-more}
 use Rattle.format.proofs.Digits.{hex-digit-read, decimal-digit-read, digit-no-newline}
+use Rattle.format.proofs.Fitting.{Fits, FitAll}
 
 -- ---- hex digits
 
@@ -17,7 +17,7 @@ hex-one : (n v d : ℕ) (t : List ℕ) → d < 16 → readHex (suc n) v (digit d
 unfolding readHex
 hex-one n v d t h = rw (hex-digit-read d h, lt-ltb d 16 h)
 
--- of k digits the first n are read
+-- of k digits the first n are read, m are to come
 hex-digits : (n m k v : ℕ) (t : List ℕ) → k ≡ n + m → v < 16 ^ n → readHex k 0 (hexText n v ++ t) ≡ readHex m v t
 unfolding hexText
 hex-digits zero m k v t e h = let z : v ≡ 0 = omega arith in rw (z, e, zero-add m)
@@ -44,7 +44,7 @@ unfolding readDigits
 decimal-next m v d t p h l =
     rw (ne-eqb (digit d) newline (digit-no-newline d), ne-eqb v 0 (λ e. omega (arith, e)), decimal-digit-read d h, lt-ltb d 10 h, le-leb _ m l)
 
--- by induction over a number above v
+-- all digits of v are read, by induction over a number above v
 decimal-digits : (n m v : ℕ) (t : List ℕ) → v < n → v ≤ m → readDecimal m (decimalText v ++ t) ≡ readDigits m v t
 decimal-digits zero m v t h g = absurd (not-suc-le-zero h)
 decimal-digits (suc n) m v t h g =

@@ -1,11 +1,12 @@
 -- The plan ("Sheet, plan and report"): a sheet and 0 to 256 steps. Assumes nothing.
 use Prim.Native.Nat.{ℕ, zero, suc, _+_}
 use mathlib.Core.List.{List, [], _∷_, _++_}
+use lib.ListN.{length}
 use Rattle.credentials.specs.declared.Credentials.{Credentials}
 use Rattle.rules.specs.Run.{Step}
 use Rattle.format.specs.Line.{Read, read, faultAt, next, mapped}
-use Rattle.format.specs.Sheet.{readFront, sheetText}
-use Rattle.format.specs.Step.{readStep, stepText}
+use Rattle.format.specs.Sheet.{sheetKinds, readFront, sheetText}
+use Rattle.format.specs.Step.{stepKinds, readStep, stepText}
 
 -- what a plan holds: the credentials at the start, and the steps
 pub record Plan : Type 0 where
@@ -28,7 +29,7 @@ unfoldable pub readSteps : ℕ → List ℕ → Read (List Step)
 readSteps zero [] = read [] []
 readSteps zero (b ∷ t) = faultAt 1
 readSteps (suc n) [] = read [] []
-readSteps (suc n) (b ∷ t) = next 5 (readStep (b ∷ t)) (λ s rest. mapped (λ ss. s ∷ ss) (readSteps n rest))
+readSteps (suc n) (b ∷ t) = next (length stepKinds + 1) (readStep (b ∷ t)) (λ s rest. mapped (λ ss. s ∷ ss) (readSteps n rest))
 
 -- the most steps of a plan
 abbrev pub MOST-STEPS : ℕ
@@ -36,4 +37,4 @@ MOST-STEPS = 256
 
 -- a whole text that is to be a plan
 unfoldable pub readPlan : List ℕ → Read Plan
-readPlan t = next 11 (readFront t) (λ c rest. mapped (λ ss. record { start = c; steps = ss }) (readSteps MOST-STEPS rest))
+readPlan t = next (length sheetKinds) (readFront t) (λ c rest. mapped (λ ss. record { start = c; steps = ss }) (readSteps MOST-STEPS rest))

@@ -3,7 +3,7 @@ use Prim.Native.Nat.{ℕ, zero, suc, _+_, _*_}
 use mathlib.Core.List.{List, [], _∷_, _++_}
 use mathlib.Core.Bool.{cond, _&&_}
 use lib.Dec.{ltb, eqb}
-use lib.ListN.{getD}
+use lib.ListN.{length, getD}
 use Rattle.rules.specs.Run.{Step}
 use Rattle.format.specs.Line.{bytes, Kind, kind, decimal, hex, hexText, keyedText, linesText, Read, read, fault, next, mapped, hexDigit, newline, afterKey, readLines}
 
@@ -53,4 +53,4 @@ stepOf vs attribute =
 
 -- a step and the text after it, or the line of its first fault, 1 to 5
 unfoldable pub readStep : List ℕ → Read Step
-readStep t = next 4 (readLines stepKinds t) (λ vs rest. mapped (stepOf vs) (readAttribute attributeKey rest))
+readStep t = next (length stepKinds) (readLines stepKinds t) (λ vs rest. mapped (stepOf vs) (readAttribute attributeKey rest))

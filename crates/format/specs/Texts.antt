@@ -1,10 +1,16 @@
--- Whole texts and what they come to: the paper's report of case 2, and faults with their lines. proofs/Texts.antt proves them by computing both
--- sides. Assumes nothing.
+-- Whole texts and what they come to: the paper's report of case 2, faults with their lines, answers and buffers. proofs/Texts.antt proves the
+-- statement at the end by computing both sides. Assumes nothing.
 use Prim.Native.Nat.{ℕ, zero, suc}
 use mathlib.Core.Path.{_≡_}
+use mathlib.Core.Bool.{false}
 use mathlib.Core.List.{List, [], _∷_, _++_}
+use lib.ListN.{replicate}
+use Rattle.credentials.specs.declared.Credentials.{Credentials}
+use Rattle.format.specs.declared.Outcome.{Outcome}
+use Rattle.format.specs.declared.SheetReading.the-variants.{Sheet, Malformed, Invalid}
 use Rattle.format.specs.Line.{bytes}
-use Rattle.format.specs.Report.{Verdict, report, malformed, invalid, verdict}
+use Rattle.format.specs.Sheet.{readSheet, sheetCode, sheetLine, sheetAnswer, sheetBuffer}
+use Rattle.format.specs.Report.{Verdict, report, malformed, invalid, verdict, outcome, buffer, cNumber}
 
 -- ---- parts of the texts
 
@@ -106,6 +112,53 @@ unfoldable pub wanted : List Row → List Verdict
 wanted [] = []
 wanted (r ∷ rs) = r .expected ∷ wanted rs
 
--- every row comes out as expected
-abbrev pub TextsHold : Type 0
-TextsHold = found table ≡ wanted table
+-- ---- answers, buffers and the C interface's number
+
+-- credentials of case 2's start, and the same with a real ID of 4294967295
+abbrev pub held : ℕ → Credentials
+held real =
+    record {
+      uids = record { real = real; effective = 1000; saved = 1000; filesystem = 1000 };
+      sets = record { permitted = 0x2000; inheritable = 0x2000; effective = 0x2000; bounding = 0x1ffffffffff; ambient = 0x2000 };
+      securebits = 0;
+      nnp = false;
+    }
+
+-- a buffer of n bytes, each 7
+abbrev pub sevens : ℕ → List ℕ
+sevens n = replicate n 7
+
+abbrev pub outcomeOf : ℕ → ℕ → ℕ → Outcome
+outcomeOf code line length = record { code = code; line = line; length = length }
+
+-- the statement: each field holds by computing both sides
+pub record TextsHold : Type 0 where
+  -- every row comes out as expected
+  pub rows : found table ≡ wanted table
+  -- the sheet reader: credentials; text past the sheet, also past one that is not valid; not valid
+  pub sheet : readSheet start ≡ Sheet (held 1000)
+  pub past-the-sheet : readSheet (start ++ bytes "\n") ≡ Malformed 12
+  pub past-an-invalid-sheet : readSheet (noId ++ bytes "x") ≡ Malformed 12
+  pub not-valid : readSheet noId ≡ Invalid
+  pub second-line : readSheet (bytes "ruid=1000\neuid=\n") ≡ Malformed 2
+  pub codes : sheetCode (readSheet start) ∷ sheetCode (readSheet noId) ∷ sheetCode (readSheet []) ∷ [] ≡ 0 ∷ 72 ∷ 70 ∷ []
+  pub lines : sheetLine (readSheet start) ∷ sheetLine (readSheet noId) ∷ sheetLine (readSheet []) ∷ [] ≡ 0 ∷ 0 ∷ 1 ∷ []
+  -- the sheet writer: 195 bytes are room enough, 194 are not, and 72 comes before 28
+  pub written : sheetAnswer (held 1000) 195 ≡ record { code = 0; length = 195 }
+  pub written-buffer : sheetBuffer (held 1000) (sevens 197) ≡ start ++ (7 ∷ 7 ∷ [])
+  pub no-room : sheetAnswer (held 1000) 194 ≡ record { code = 28; length = 0 }
+  pub no-room-buffer : sheetBuffer (held 1000) (sevens 194) ≡ sevens 194
+  pub not-valid-written : sheetAnswer (held 4294967295) 0 ≡ record { code = 72; length = 0 }
+  pub not-valid-buffer : sheetBuffer (held 4294967295) (sevens 197) ≡ sevens 197
+  -- the runner, by what the text comes to
+  pub done : outcome (report (bytes "nnp=0\n")) 6 ≡ outcomeOf 0 0 6
+  pub done-buffer : buffer (report (bytes "nnp=0\n")) (sevens 8) ≡ bytes "nnp=0\n" ++ (7 ∷ 7 ∷ [])
+  pub one-short : outcome (report (bytes "nnp=0\n")) 5 ≡ outcomeOf 28 0 0
+  pub one-short-buffer : buffer (report (bytes "nnp=0\n")) (sevens 5) ≡ sevens 5
+  pub at-fault : outcome (malformed 1292) 0 ≡ outcomeOf 70 1292 0
+  pub at-fault-buffer : buffer (malformed 1292) (sevens 2) ≡ sevens 2
+  pub invalid-start : outcome invalid 0 ≡ outcomeOf 72 0 0
+  pub invalid-buffer : buffer invalid (sevens 2) ≡ sevens 2
+  -- the C interface's number: 0 and 225 bytes; 70 and line 12, which is 46 hex times 2 to the 32nd and 12; 72; 28
+  pub numbers : cNumber (outcomeOf 0 0 225) ∷ cNumber (outcomeOf 70 12 0) ∷ cNumber (outcomeOf 72 0 0) ∷ cNumber (outcomeOf 28 0 0) ∷ []
+      ≡ 225 ∷ 0x460000000c ∷ 0x4800000000 ∷ 0x1c00000000 ∷ []

@@ -5,13 +5,12 @@
 mod reader;
 mod writer;
 
+use credentials::Credentials;
 pub use reader::read_front;
 pub use reader::read_sheet;
 pub use writer::sheet_length;
 pub use writer::write_at;
 pub use writer::write_sheet;
-
-use credentials::Credentials;
 
 // What comes back: done, no room in the buffer, credentials that are not valid.
 const DONE: u64 = 0;

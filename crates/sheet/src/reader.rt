@@ -6,6 +6,8 @@ ghost use Rattle.format.specs.Line.{readLines};
 ghost use Rattle.format.specs.Sheet.{idKinds, setKinds, flagKinds, readSheet};
 ghost use Rattle.sheet.specs.Positions.{frontOf};
 ghost use Rattle.sheet.specs.Inside.{seenIds, seenSets, seenFlags, SetsEnd, FlagsEnd};
+use crate::Front;
+use crate::SHEET_LINES;
 use credentials::Credentials;
 use credentials::Ids;
 use credentials::Sets;
@@ -13,10 +15,8 @@ use credentials::is_valid;
 use format::SheetReading;
 use reading::Line;
 use reading::read_decimal;
-use reading::read_hex16;
 use reading::read_hex2;
-use crate::Front;
-use crate::SHEET_LINES;
+use reading::read_hex16;
 
 // The largest number that can be written for an ID, and for no-new-privs.
 const LARGEST_WRITTEN_ID: u32 = 4294967295;

@@ -7,6 +7,9 @@ ghost use Rattle.format.specs.Line.{linesText};
 ghost use Rattle.format.specs.Sheet.{idKinds, setKinds, flagKinds, sheetText, sheetAnswer, sheetBuffer};
 ghost use Rattle.writing.specs.Positions.{written, writtenTo};
 ghost use Rattle.sheet.specs.Inside.{idValues, setValues, flagValues};
+use crate::DONE;
+use crate::INVALID;
+use crate::NO_ROOM;
 use attribute::Written;
 use credentials::Credentials;
 use credentials::Ids;
@@ -15,9 +18,6 @@ use credentials::is_valid;
 use writing::decimal_length;
 use writing::write_decimal;
 use writing::write_hex;
-use crate::DONE;
-use crate::INVALID;
-use crate::NO_ROOM;
 
 // A sheet's length without the digits of its IDs: the keys, five sets, securebits, no-new-privs and the newlines.
 const FIXED_LENGTH: usize = 179;
