@@ -79,7 +79,7 @@ key-in-line (k ∷ ks) f (b ∷ t) h = if-in-line (eqb b k) (afterKey ks f t) (k
 -- ---- where the next line starts
 
 -- what is left of a text after its beginning
-rest-at : (text start rest : List ℕ) (at : ℕ) → drop at text ≡ start ++ rest → 0 < length start → drop (length text - length rest) text ≡ rest
+pub rest-at : (text start rest : List ℕ) (at : ℕ) → drop at text ≡ start ++ rest → 0 < length start → drop (length text - length rest) text ≡ rest
 rest-at text start rest at h g =
     let n : length text - at ≡ length start + length rest = sym (length-drop at text) ∙ ap length h ∙ length-append start rest in
     let e : length text - length rest ≡ at + length start = omega arith in

@@ -1,7 +1,6 @@
 // The sheet reader: IDs, sets and flags, each group of lines by a reader of its own.
 ghost use mathlib.Core.Path.{_≡_};
-ghost use Prim.Native.Nat.{_≤_};
-ghost use lib.ListN.{length, drop};
+ghost use lib.ListN.{drop};
 ghost use Rattle.format.specs.Line.{readLines};
 ghost use Rattle.format.specs.Sheet.{idKinds, setKinds, flagKinds, readSheet};
 ghost use Rattle.sheet.specs.Positions.{frontOf};

@@ -8,7 +8,7 @@ use native.Mathlib.Numerals.{add-one}
 use native.Mathlib.Omega.{arith}
 use borrow.Author.Tests.{le-leb, lt-leb}
 use lib.ListN.{length, getD, set, drop, length-append, drop-of-length-le}
-use lib.Seq.{sets, set-comm, drop-cons}
+use lib.Seq.{sets, set-comm, drop-cons, length-sets}
 use Rattle.format.specs.Line.{bytes, digit, hexText, decimalText, keyedText}
 use Rattle.format.proofs.Decimals.{below-or-not, decimal-one, decimal-more}
 use Rattle.writing.specs.Positions.{written, writtenTo}
@@ -99,14 +99,16 @@ unfolding keyedText
 put-keyed key value l at p q hp hq =
     sym (sets-append key (value ++ bytes "\n") l at ∙ rw (← hp) (sets-append value (bytes "\n") (sets l at key) p ∙ rw (← hq)))
 
+-- a text that does not fit
+pub text-refused : (t old : List ℕ) (at : ℕ) → length old < at + length t → (at ≡ writtenTo old at t) × (old ≡ written old at t)
+unfolding written writtenTo
+text-refused t old at h = rw (lt-leb (at + length t) (length old) h) (refl, refl)
+
 module _ (key value old : List ℕ) (at : ℕ) where
   -- a line that does not fit
   pub keyed-refused : length old < at + (length key + length value + 1)
       → (at ≡ writtenTo old at (keyedText key value)) × (old ≡ written old at (keyedText key value))
-  unfolding written writtenTo
-  keyed-refused h =
-      let e = lt-leb (at + length (keyedText key value)) (length old) (omega (arith, length-keyed key value)) in
-      rw e (refl, refl)
+  keyed-refused h = text-refused (keyedText key value) old at (omega (arith, length-keyed key value))
 
   -- and one that does
   pub keyed-written : (p q : ℕ) → p ≡ at + length key → q ≡ p + length value → at + (length key + length value + 1) ≤ length old
@@ -115,3 +117,26 @@ module _ (key value old : List ℕ) (at : ℕ) where
   keyed-written p q hp hq h =
       let e = le-leb (at + length (keyedText key value)) (length old) (omega (arith, length-keyed key value)) in
       rw e (omega (arith, length-keyed key value), put-keyed key value old at p q hp hq)
+
+-- ---- texts one after the other
+
+module _ (old : List ℕ) (at : ℕ) where
+  -- a text that fits
+  pub written-first : (t buf : List ℕ) (r : ℕ) → at + length t ≤ length old → r ≡ writtenTo old at t → buf ≡ written old at t
+      → (r ≡ at + length t) × (buf ≡ sets old at t)
+  unfolding written writtenTo
+  written-first t buf r h p q =
+      let e = le-leb (at + length t) (length old) h in
+      (p ∙ rw e, q ∙ rw e)
+
+  -- and one behind it
+  pub written-next : (t u before buf : List ℕ) (pos r : ℕ) → (pos ≡ at + length t) × (before ≡ sets old at t) → at + length (t ++ u) ≤ length old
+      → r ≡ writtenTo before pos u → buf ≡ written before pos u
+      → (r ≡ at + length (t ++ u)) × (buf ≡ sets old at (t ++ u))
+  unfolding written writtenTo
+  written-next t u before buf pos r s h p q =
+      let n : length (t ++ u) ≡ length t + length u = length-append t u in
+      let l : length before ≡ length old = ap length (s .1) ∙ length-sets old at t in
+      let e = le-leb (pos + length u) (length before) (omega (arith, s .0, n, l)) in
+      let g : pos + length u ≡ at + length (t ++ u) = omega (arith, s .0, n) in
+      (p ∙ rw e g, q ∙ rw e (rw (s .1, s .0) (sym (sets-append t u old at))))

@@ -37,9 +37,9 @@ fn put_hex(buf: &mut [u8], at: usize, n: usize, v: u64) -> usize
     at + n
 }
 
-// How many decimal digits v has.
+// How many decimal digits v has, which is at most 20.
 pub fn decimal_length(v: u64) -> usize
-    ensures { λ r. ⌜ (r ≡ length (decimalText v)) ⌝ }
+    ensures { λ r. ⌜ (r ≡ length (decimalText v)) × (r ≤ 20) ⌝ }
 {
     let mut n: usize = 1;
     let mut w = v;

@@ -1,74 +1,59 @@
-use Rattle.sheet.specs.Positions.{frontOf}
+-- `sheet::reader::read_flags` meets its contract. Assumes nothing.
+use mathlib.Core.Path.{sym, _∙_}
+use Rattle.format.specs.Line.{readLines}
+use Rattle.format.specs.Sheet.{flagKinds}
+use Rattle.reading.proofs.Answers.{line-read, line-fault}
 use borrow.Author.Needs.{needs}
 use Rattle.sheet.proofs.reader.read_flags.Statement.{statement}
 use Rattle.sheet.proofs.reader.read_flags.Tie as tie
-use Rattle.sheet.proofs.reader.read_flags.Reads as reads
-use Rattle.sheet.proofs.reader.read_flags.Lts as lts
-use Rattle.reading.proofs.read_decimal.Reads as read-decimal-reads
-use Rattle.reading.proofs.read_hex2.Reads as read-hex2-reads
 
--- src/reader.rt:107:55
 slice-aggregate-read-hex2 : tie.Need-slice-aggregate-read-hex2
 slice-aggregate-read-hex2 c = search needs
 
--- src/reader.rt:107:35
 read-hex2-requires : tie.Need-read-hex2-requires
-read-hex2-requires c κs = search needs
+read-hex2-requires c κs = tt
 
--- src/reader.rt:107:18
 enum-known-securebits : tie.Need-enum-known-securebits
 enum-known-securebits c = search needs
 
--- src/reader.rt:108:9
 enum-told : tie.Need-enum-told
 enum-told c = search needs
 
--- src/reader.rt:108:9
 returns : tie.Need-returns
-unfolding frontOf
-returns c =
-    simp (
-      c .enum-told .given .1,
-      ← (c .before .before .read-hex2 .ensures),
-    )
+unfolding readLines flagKinds
+returns c = (rw (line-fault _ _ _ _ (sym (c .before .before .read-hex2 .ensures) ∙ c .enum-told .given .1)), search needs)
 
--- src/reader.rt:110:53
 slice-aggregate-read-decimal : tie.Need-slice-aggregate-read-decimal
 slice-aggregate-read-decimal c = search needs
 
--- src/reader.rt:110:31
 read-decimal-requires : tie.Need-read-decimal-requires
-read-decimal-requires c κs = search needs
+read-decimal-requires c κs = tt
 
--- src/reader.rt:110:18
 enum-known-nnp : tie.Need-enum-known-nnp
 enum-known-nnp c = search needs
 
--- src/reader.rt:111:9
 enum-told-2 : tie.Need-enum-told-2
 enum-told-2 c = search needs
 
--- src/reader.rt:111:9
 returns-2 : tie.Need-returns-2
-unfolding frontOf
-returns-2 c =
-    simp (
-      c .enum-told2 .given .1,
-      ← (c .before .before .read-decimal .ensures),
-      c .before .before .before .before .before .securebits .given .1,
-      ← (c .before .before .before .before .before .before .before .read-hex2 .ensures),
-    )
+unfolding readLines flagKinds
+returns-2 c = (
+  rw (
+    line-read _ _ _ _ _ _ (sym (c .before .before .before .before .before .before .before .read-hex2 .ensures) ∙ c .before .before .before .before .before .securebits .given .1) .0,
+    line-fault _ _ _ _ (sym (c .before .before .read-decimal .ensures) ∙ c .enum-told2 .given .1),
+  ),
+  search needs,
+)
 
--- src/reader.rt:104:1
 returns-3 : tie.Need-returns-3
-unfolding frontOf
-returns-3 c =
-    simp (
-      c .before .nnp .given .1,
-      ← (c .before .before .before .read-decimal .ensures),
-      c .before .before .before .before .before .before .securebits .given .1,
-      ← (c .before .before .before .before .before .before .before .before .read-hex2 .ensures),
-    )
+unfolding readLines flagKinds
+returns-3 c = (
+  rw (
+    line-read _ _ _ _ _ _ (sym (c .before .before .before .before .before .before .before .before .read-hex2 .ensures) ∙ c .before .before .before .before .before .before .securebits .given .1) .0,
+    line-read _ _ _ _ _ _ (sym (c .before .before .before .read-decimal .ensures) ∙ c .before .nnp .given .1) .0,
+  ),
+  line-read _ _ _ _ _ _ (sym (c .before .before .before .read-decimal .ensures) ∙ c .before .nnp .given .1) .1,
+)
 
 pub read-flags-spec : {M : Type 1} → statement M
 read-flags-spec =

@@ -1,106 +1,77 @@
-use Rattle.sheet.specs.Positions.{frontOf}
+-- `sheet::reader::read_front` meets its contract. Assumes nothing.
+use mathlib.Core.Path.{sym, ap, _∙_}
+use native.Mathlib.Omega.{arith}
+use Rattle.sheet.specs.declared.reader.IdLines.{IdLines}
+use Rattle.sheet.specs.declared.reader.SetLines.{SetLines}
+use Rattle.sheet.specs.declared.reader.FlagLines.{FlagLines}
+use Rattle.sheet.specs.Inside.{seenIds, seenSets, seenFlags}
+use Rattle.sheet.proofs.Groups.{ids-at-fault, sets-at-fault, flags-at-fault, front-read}
 use borrow.Author.Needs.{needs}
 use Rattle.sheet.proofs.reader.read_front.Statement.{statement}
 use Rattle.sheet.proofs.reader.read_front.Tie as tie
-use Rattle.sheet.proofs.reader.read_front.Reads as reads
-use Rattle.sheet.proofs.reader.read_front.Lts as lts
-use Rattle.sheet.proofs.reader.read_flags.Reads as read-flags-reads
-use Rattle.sheet.proofs.reader.read_ids.Reads as read-ids-reads
-use Rattle.sheet.proofs.reader.read_sets.Reads as read-sets-reads
 
--- src/reader.rt:120:11
 read-ids-requires : tie.Need-read-ids-requires
-read-ids-requires c κs = search needs
+read-ids-requires c κs = tt
 
--- src/reader.rt:121:24
 enum-known-line : tie.Need-enum-known-line
 enum-known-line c = search needs
 
--- src/reader.rt:122:13
 returns : tie.Need-returns
-unfolding frontOf
 returns c =
-    simp (
-      c .before .line .given .1,
-      ← (c .before .before .before .read-ids .ensures),
-    )
+    let t = c .before .before .before .before .before .args .text .now in
+    sym (ids-at-fault t _ (sym (c .before .before .before .read-ids .ensures) ∙ ap (λ (x : IdLines). seenIds x t) (c .before .line .given .1)))
 
--- src/reader.rt:124:22
 enum-known-uids : tie.Need-enum-known-uids
 enum-known-uids c = search needs
 
--- src/reader.rt:124:40
 read-sets-requires : tie.Need-read-sets-requires
-read-sets-requires c κs = search needs
+read-sets-requires c κs = tt
 
--- src/reader.rt:125:29
 enum-known-line-2 : tie.Need-enum-known-line-2
 enum-known-line-2 c = search needs
 
--- src/reader.rt:126:37
 add-t15 : tie.Need-add-t15
-add-t15 c = ?
+add-t15 c = let e = rw (c .before .line2 .given .1) at (c .before .before .before .read-sets .ensures .1) in omega (arith, e)
 
--- src/reader.rt:126:17
 returns-2 : tie.Need-returns-2
-unfolding frontOf
 returns-2 c =
-    simp (
-      c .before .line2 .given .1,
-      ← (c .before .before .before .read-sets .ensures),
-      c .before .before .before .before .before .uids .given .1,
-      ← (c .before .before .before .before .before .before .before .read-ids .ensures),
-    )
+    let t = c .before .before .before .before .before .before .before .before .before .args .text .now in
+    let ids = sym (c .before .before .before .before .before .before .before .read-ids .ensures) ∙ ap (λ (x : IdLines). seenIds x t) (c .before .before .before .before .before .uids .given .1) in
+    sym (sets-at-fault t _ _ _ ids (sym (c .before .before .before .read-sets .ensures .0) ∙ ap (λ (x : SetLines). seenSets x t) (c .before .line2 .given .1)))
 
--- src/reader.rt:128:27
 enum-known-sets : tie.Need-enum-known-sets
 enum-known-sets c = search needs
 
--- src/reader.rt:128:45
 read-flags-requires : tie.Need-read-flags-requires
-read-flags-requires c κs = search needs
+read-flags-requires c κs = tt
 
--- src/reader.rt:129:34
 enum-known-line-3 : tie.Need-enum-known-line-3
 enum-known-line-3 c = search needs
 
--- src/reader.rt:130:41
 add-t17 : tie.Need-add-t17
 add-t17 c = search needs
 
--- src/reader.rt:130:41
 add-t18 : tie.Need-add-t18
-add-t18 c = ?
+add-t18 c = let e = rw (c .before .line3 .given .1) at (c .before .before .before .read-flags .ensures .1) in omega (arith, e)
 
--- src/reader.rt:130:21
 returns-3 : tie.Need-returns-3
-unfolding frontOf
 returns-3 c =
-    simp (
-      c .before .line3 .given .1,
-      ← (c .before .before .before .read-flags .ensures),
-      c .before .before .before .before .before .sets .given .1,
-      ← (c .before .before .before .before .before .before .before .read-sets .ensures),
-      c .before .before .before .before .before .before .before .before .before .uids .given .1,
-      ← (c .before .before .before .before .before .before .before .before .before .before .before .read-ids .ensures),
-    )
+    let t = c .before .before .before .before .before .before .before .before .before .before .before .before .before .args .text .now in
+    let ids = sym (c .before .before .before .before .before .before .before .before .before .before .before .read-ids .ensures) ∙ ap (λ (x : IdLines). seenIds x t) (c .before .before .before .before .before .before .before .before .before .uids .given .1) in
+    let sets = sym (c .before .before .before .before .before .before .before .read-sets .ensures .0) ∙ ap (λ (x : SetLines). seenSets x t) (c .before .before .before .before .before .sets .given .1) in
+    sym (flags-at-fault t _ _ _ _ _ ids sets (sym (c .before .before .before .read-flags .ensures .0) ∙ ap (λ (x : FlagLines). seenFlags x t) (c .before .line3 .given .1)))
 
--- src/reader.rt:132:32
 enum-known-securebits : tie.Need-enum-known-securebits
 enum-known-securebits c = search needs
 
--- src/reader.rt:139:21
 returns-4 : tie.Need-returns-4
-unfolding frontOf
 returns-4 c =
-    simp (
-      c .before .securebits .given .1,
-      ← (c .before .before .before .read-flags .ensures),
-      c .before .before .before .before .before .sets .given .1,
-      ← (c .before .before .before .before .before .before .before .read-sets .ensures),
-      c .before .before .before .before .before .before .before .before .before .uids .given .1,
-      ← (c .before .before .before .before .before .before .before .before .before .before .before .read-ids .ensures),
-    )
+    let t = c .before .before .before .before .before .before .before .before .before .before .before .before .before .args .text .now in
+    let ids = sym (c .before .before .before .before .before .before .before .before .before .before .before .read-ids .ensures) ∙ ap (λ (x : IdLines). seenIds x t) (c .before .before .before .before .before .before .before .before .before .uids .given .1) in
+    let sets = sym (c .before .before .before .before .before .before .before .read-sets .ensures .0) ∙ ap (λ (x : SetLines). seenSets x t) (c .before .before .before .before .before .sets .given .1) in
+    let flags = sym (c .before .before .before .read-flags .ensures .0) ∙ ap (λ (x : FlagLines). seenFlags x t) (c .before .securebits .given .1) in
+    let past = rw (c .before .securebits .given .1) at (c .before .before .before .read-flags .ensures .1) in
+    sym (front-read t _ _ _ _ _ _ _ ids sets flags past)
 
 pub read-front-spec : {M : Type 1} → statement M
 read-front-spec =

@@ -1,71 +1,50 @@
-use Rattle.writing.specs.Positions.{writtenTo}
-use borrow.Author.Tests.{le-leb, le-ltb, lt-leb, lt-ltb}
-use borrow.Author.Needs.{needs}
+-- `sheet::writer::write_at` meets its contract. Assumes nothing.
+use mathlib.Core.Path.{_∙_}
+use native.Mathlib.Omega.{arith}
+use Rattle.format.specs.Sheet.{sheetText}
+use Rattle.writing.proofs.LineLaws.{text-refused}
+use Rattle.sheet.proofs.Groups.{length-grouped, sheet-put}
 use Rattle.sheet.proofs.writer.write_at.Statement.{statement}
 use Rattle.sheet.proofs.writer.write_at.Tie as tie
-use Rattle.sheet.proofs.writer.write_at.Reads as reads
-use Rattle.sheet.proofs.writer.write_at.Lts as lts
-use Rattle.sheet.proofs.writer.sheet_length.Reads as sheet-length-reads
-use Rattle.sheet.proofs.writer.write_flags.Reads as write-flags-reads
-use Rattle.sheet.proofs.writer.write_ids.Reads as write-ids-reads
-use Rattle.sheet.proofs.writer.write_sets.Reads as write-sets-reads
 
--- src/writer.rt:81:9
 sheet-length-requires : tie.Need-sheet-length-requires
-sheet-length-requires c κs = search needs
+sheet-length-requires c κs = tt
 
--- src/writer.rt:84:9
 returns : tie.Need-returns
-unfolding writtenTo
 returns c =
-    simp (
-      lt-ltb _ _ (c .if1 .taken),
-      lt-leb _ _ (c .if1 .taken),
-      ← (c .before .sheet-length .ensures),
-    )
+    let a = c .before .before .before .args in
+    text-refused (sheetText (a .held)) (a .buf .now) (a .at) (omega (arith, c .before .sheet-length .ensures))
 
--- src/writer.rt:87:9
 returns-2 : tie.Need-returns-2
-unfolding writtenTo
 returns-2 c =
-    simp (
-      lt-ltb _ _ (c .if2 .taken),
-      lt-leb _ _ (c .if2 .taken),
-      le-leb _ _ (c .before .if1 .left),
-      le-ltb _ _ (c .before .if1 .left),
-      ← (c .before .before .sheet-length .ensures),
-    )
+    let a = c .before .before .before .before .args in
+    text-refused (sheetText (a .held)) (a .buf .now) (a .at) (omega (arith, c .before .before .sheet-length .ensures))
 
--- src/writer.rt:89:9
 write-ids-requires : tie.Need-write-ids-requires
-write-ids-requires c κs = ?
+write-ids-requires c κs =
+    let a = c .before .before .before .before .before .args in
+    omega (arith, length-grouped (a .held), c .before .before .before .sheet-length .ensures)
 
--- src/writer.rt:90:9
 write-sets-requires : tie.Need-write-sets-requires
-write-sets-requires c κs = ?
+write-sets-requires c κs =
+    let a = c .before .before .before .before .before .before .before .before .before .args in
+    let first = c .before .before .before .write-ids in
+    omega (arith, length-grouped (a .held), c .before .before .before .before .before .before .before .sheet-length .ensures, first .ensures .0, first .kept .0)
 
--- src/writer.rt:91:5
 write-flags-requires : tie.Need-write-flags-requires
-write-flags-requires c κs = ?
+write-flags-requires c κs =
+    let a = c .before .before .before .before .before .before .before .before .before .before .before .before .before .args in
+    let first = c .before .before .before .before .before .before .before .write-ids in
+    let second = c .before .before .before .write-sets in
+    omega (arith, length-grouped (a .held), c .before .before .before .before .before .before .before .before .before .before .before .sheet-length .ensures, first .ensures .0, first .kept .0, second .ensures .0, second .kept .0)
 
--- src/writer.rt:78:1
 same-length : tie.Need-same-length
-same-length c = search needs
+same-length c = c .before .before .write-flags .kept .0 ∙ c .before .before .before .before .before .before .write-sets .kept .0 ∙ c .before .before .before .before .before .before .before .before .before .before .write-ids .kept .0
 
--- src/writer.rt:78:1
 returns-3 : tie.Need-returns-3
-unfolding writtenTo
 returns-3 c =
-    simp (
-      ← (c .before .before .write-flags .ensures .0),
-      ← (c .before .before .before .before .before .before .write-sets .ensures .0),
-      ← (c .before .before .before .before .before .before .before .before .before .before .write-ids .ensures .0),
-      le-leb _ _ (c .before .before .before .before .before .before .before .before .before .before .before .before .if2 .left),
-      le-ltb _ _ (c .before .before .before .before .before .before .before .before .before .before .before .before .if2 .left),
-      le-leb _ _ (c .before .before .before .before .before .before .before .before .before .before .before .before .before .if1 .left),
-      le-ltb _ _ (c .before .before .before .before .before .before .before .before .before .before .before .before .before .if1 .left),
-      ← (c .before .before .before .before .before .before .before .before .before .before .before .before .before .before .sheet-length .ensures),
-    )
+    let a = c .before .before .before .before .before .before .before .before .before .before .before .before .before .before .before .before .args in
+    sheet-put (a .held) (a .buf .now) _ _ _ (a .at) _ _ _ (c .before .before .before .before .before .before .before .before .before .before .write-ids .ensures) (c .before .before .before .before .before .before .write-sets .ensures) (c .before .before .write-flags .ensures) (omega (arith, c .before .before .before .before .before .before .before .before .before .before .before .before .before .before .sheet-length .ensures))
 
 pub write-at-spec : {M : Type 1} → statement M
 write-at-spec =

@@ -1,60 +1,65 @@
+-- `sheet::writer::write_flags` meets its contract. Assumes nothing.
+use mathlib.Core.Path.{ap, _∙_}
+use native.Mathlib.Omega.{arith}
+use lib.ListN.{length, length-append}
+use Rattle.format.specs.Line.{bytes, keyedText, decimalText, hexText}
+use Rattle.writing.proofs.LineLaws.{written-first, written-next}
+use Rattle.sheet.proofs.Groups.{flags-text-set, flags-text-clear}
 use borrow.Author.Needs.{needs}
 use Rattle.sheet.proofs.writer.write_flags.Statement.{statement}
 use Rattle.sheet.proofs.writer.write_flags.Tie as tie
-use Rattle.sheet.proofs.writer.write_flags.Reads as reads
-use Rattle.sheet.proofs.writer.write_flags.Lts as lts
-use Rattle.writing.proofs.write_decimal.Reads as write-decimal-reads
-use Rattle.writing.proofs.write_hex.Reads as write-hex-reads
 
--- src/writer.rt:70:32
 slice-aggregate-write-hex : tie.Need-slice-aggregate-write-hex
 slice-aggregate-write-hex c = search needs
 
--- src/writer.rt:70:9
 write-hex-requires : tie.Need-write-hex-requires
-write-hex-requires c κs = search needs
+write-hex-requires c κs = tt
 
--- src/writer.rt:72:38
 slice-aggregate-write-decimal : tie.Need-slice-aggregate-write-decimal
 slice-aggregate-write-decimal c = search needs
 
--- src/writer.rt:72:9
 write-decimal-requires : tie.Need-write-decimal-requires
-write-decimal-requires c κs = search needs
+write-decimal-requires c κs = tt
 
--- src/writer.rt:72:9
 same-length : tie.Need-same-length
-same-length c = search needs
+same-length c = c .before .before .write-decimal .kept .0 ∙ c .before .before .before .before .before .before .before .before .write-hex .kept .0
 
--- src/writer.rt:72:9
 returns : tie.Need-returns
 returns c =
-    simp (
-      ← (c .before .before .write-decimal .ensures),
-      c .before .before .before .before .before .if1 .taken,
-      ← (c .before .before .before .before .before .before .before .before .write-hex .ensures),
-    )
+    let s = c .before .before .before .before .before .before .before .before .before .before .before .before in
+    let a = s .args in
+    let t1 = keyedText (bytes "securebits=") (hexText 2 (a .securebits)) in
+    let t2 = keyedText (bytes "nnp=") (decimalText 1) in
+    let w = flags-text-set (a .securebits) (a .nnp) (c .before .before .before .before .before .if1 .taken) in
+    let room = ap length w in
+    let first = c .before .before .before .before .before .before .before .before .write-hex .ensures in
+    let second = c .before .before .write-decimal .ensures in
+    let s1 = written-first (a .buf .now) (a .at) t1 _ _ (omega (arith, s .pre, room, length-append t1 t2)) (first .0) (first .1) in
+    let s2 = written-next (a .buf .now) (a .at) t1 t2 _ _ _ _ s1 (omega (arith, s .pre, room)) (second .0) (second .1) in
+    rw w s2
 
--- src/writer.rt:74:27
 slice-aggregate-write-decimal-2 : tie.Need-slice-aggregate-write-decimal-2
 slice-aggregate-write-decimal-2 c = search needs
 
--- src/writer.rt:74:5
 write-decimal-requires-2 : tie.Need-write-decimal-requires-2
-write-decimal-requires-2 c κs = search needs
+write-decimal-requires-2 c κs = tt
 
--- src/writer.rt:66:1
 same-length-2 : tie.Need-same-length-2
-same-length-2 c = search needs
+same-length-2 c = c .before .before .write-decimal2 .kept .0 ∙ c .before .before .before .before .before .before .before .before .write-hex .kept .0
 
--- src/writer.rt:66:1
 returns-2 : tie.Need-returns-2
 returns-2 c =
-    simp (
-      ← (c .before .before .write-decimal2 .ensures),
-      c .before .before .before .before .before .if1 .left,
-      ← (c .before .before .before .before .before .before .before .before .write-hex .ensures),
-    )
+    let s = c .before .before .before .before .before .before .before .before .before .before .before .before in
+    let a = s .args in
+    let t1 = keyedText (bytes "securebits=") (hexText 2 (a .securebits)) in
+    let t2 = keyedText (bytes "nnp=") (decimalText 0) in
+    let w = flags-text-clear (a .securebits) (a .nnp) (c .before .before .before .before .before .if1 .left) in
+    let room = ap length w in
+    let first = c .before .before .before .before .before .before .before .before .write-hex .ensures in
+    let second = c .before .before .write-decimal2 .ensures in
+    let s1 = written-first (a .buf .now) (a .at) t1 _ _ (omega (arith, s .pre, room, length-append t1 t2)) (first .0) (first .1) in
+    let s2 = written-next (a .buf .now) (a .at) t1 t2 _ _ _ _ s1 (omega (arith, s .pre, room)) (second .0) (second .1) in
+    rw w s2
 
 pub write-flags-spec : {M : Type 1} → statement M
 write-flags-spec =

@@ -1,55 +1,57 @@
+-- `sheet::writer::write_ids` meets its contract. Assumes nothing.
+use mathlib.Core.Path.{ap, _∙_}
+use mathlib.Core.List.{_++_}
+use native.Mathlib.Omega.{arith}
+use lib.ListN.{length, length-append}
+use Rattle.format.specs.Line.{bytes, keyedText, decimalText}
+use Rattle.writing.proofs.LineLaws.{written-first, written-next}
+use Rattle.sheet.proofs.Groups.{ids-text}
 use borrow.Author.Needs.{needs}
 use Rattle.sheet.proofs.writer.write_ids.Statement.{statement}
 use Rattle.sheet.proofs.writer.write_ids.Tie as tie
-use Rattle.sheet.proofs.writer.write_ids.Reads as reads
-use Rattle.sheet.proofs.writer.write_ids.Lts as lts
-use Rattle.writing.proofs.write_decimal.Reads as write-decimal-reads
 
--- src/writer.rt:47:36
 slice-aggregate-write-decimal : tie.Need-slice-aggregate-write-decimal
 slice-aggregate-write-decimal c = search needs
 
--- src/writer.rt:47:9
 write-decimal-requires : tie.Need-write-decimal-requires
-write-decimal-requires c κs = search needs
+write-decimal-requires c κs = tt
 
--- src/writer.rt:48:35
 slice-aggregate-write-decimal-2 : tie.Need-slice-aggregate-write-decimal-2
 slice-aggregate-write-decimal-2 c = search needs
 
--- src/writer.rt:48:9
 write-decimal-requires-2 : tie.Need-write-decimal-requires-2
-write-decimal-requires-2 c κs = search needs
+write-decimal-requires-2 c κs = tt
 
--- src/writer.rt:49:35
 slice-aggregate-write-decimal-3 : tie.Need-slice-aggregate-write-decimal-3
 slice-aggregate-write-decimal-3 c = search needs
 
--- src/writer.rt:49:9
 write-decimal-requires-3 : tie.Need-write-decimal-requires-3
-write-decimal-requires-3 c κs = search needs
+write-decimal-requires-3 c κs = tt
 
--- src/writer.rt:50:27
 slice-aggregate-write-decimal-4 : tie.Need-slice-aggregate-write-decimal-4
 slice-aggregate-write-decimal-4 c = search needs
 
--- src/writer.rt:50:5
 write-decimal-requires-4 : tie.Need-write-decimal-requires-4
-write-decimal-requires-4 c κs = search needs
+write-decimal-requires-4 c κs = tt
 
--- src/writer.rt:43:1
 same-length : tie.Need-same-length
-same-length c = search needs
+same-length c = c .before .before .write-decimal4 .kept .0 ∙ c .before .before .before .before .before .before .before .write-decimal3 .kept .0 ∙ c .before .before .before .before .before .before .before .before .before .before .before .before .write-decimal2 .kept .0 ∙ c .before .before .before .before .before .before .before .before .before .before .before .before .before .before .before .before .before .write-decimal .kept .0
 
--- src/writer.rt:43:1
 returns : tie.Need-returns
 returns c =
-    simp (
-      ← (c .before .before .write-decimal4 .ensures),
-      ← (c .before .before .before .before .before .before .before .write-decimal3 .ensures),
-      ← (c .before .before .before .before .before .before .before .before .before .before .before .before .write-decimal2 .ensures),
-      ← (c .before .before .before .before .before .before .before .before .before .before .before .before .before .before .before .before .before .write-decimal .ensures),
-    )
+    let s = c .before .before .before .before .before .before .before .before .before .before .before .before .before .before .before .before .before .before .before .before .before in
+    let a = s .args in
+    let t1 = keyedText (bytes "ruid=") (decimalText (a .ids .real)) in
+    let t2 = keyedText (bytes "euid=") (decimalText (a .ids .effective)) in
+    let t3 = keyedText (bytes "suid=") (decimalText (a .ids .saved)) in
+    let t4 = keyedText (bytes "fsuid=") (decimalText (a .ids .filesystem)) in
+    let w = ids-text (a .ids) in
+    let room = ap length w in
+    let s1 = written-first (a .buf .now) (a .at) t1 _ _ (omega (arith, s .pre, room, length-append t1 t2, length-append (t1 ++ t2) t3, length-append ((t1 ++ t2) ++ t3) t4)) (c .before .before .before .before .before .before .before .before .before .before .before .before .before .before .before .before .before .write-decimal .ensures .0) (c .before .before .before .before .before .before .before .before .before .before .before .before .before .before .before .before .before .write-decimal .ensures .1) in
+    let s2 = written-next (a .buf .now) (a .at) t1 t2 _ _ _ _ s1 (omega (arith, s .pre, room, length-append t1 t2, length-append (t1 ++ t2) t3, length-append ((t1 ++ t2) ++ t3) t4)) (c .before .before .before .before .before .before .before .before .before .before .before .before .write-decimal2 .ensures .0) (c .before .before .before .before .before .before .before .before .before .before .before .before .write-decimal2 .ensures .1) in
+    let s3 = written-next (a .buf .now) (a .at) (t1 ++ t2) t3 _ _ _ _ s2 (omega (arith, s .pre, room, length-append t1 t2, length-append (t1 ++ t2) t3, length-append ((t1 ++ t2) ++ t3) t4)) (c .before .before .before .before .before .before .before .write-decimal3 .ensures .0) (c .before .before .before .before .before .before .before .write-decimal3 .ensures .1) in
+    let s4 = written-next (a .buf .now) (a .at) ((t1 ++ t2) ++ t3) t4 _ _ _ _ s3 (omega (arith, s .pre, room, length-append t1 t2, length-append (t1 ++ t2) t3, length-append ((t1 ++ t2) ++ t3) t4)) (c .before .before .write-decimal4 .ensures .0) (c .before .before .write-decimal4 .ensures .1) in
+    rw w s4
 
 pub write-ids-spec : {M : Type 1} → statement M
 write-ids-spec =

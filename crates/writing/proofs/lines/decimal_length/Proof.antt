@@ -28,7 +28,10 @@ loop-again : tie.Need-loop-again Inv-loop μ-loop
 loop-again c = let l = c .before .loop in (l .inv .0 ∙ rw (length-more (l .w) (c .loop-test .taken)) (omega arith), l .inv .1)
 
 returns : tie.Need-returns Inv-loop μ-loop
-returns c = let l = c .before .loop in omega (arith, l .inv .0, length-one (l .w) (c .loop-test .left))
+returns c =
+    let l = c .before .loop in
+    let one = length-one (l .w) (c .loop-test .left) in
+    (omega (arith, l .inv .0, one), omega (arith, l .inv .0, l .inv .1, one))
 
 pub decimal-length-spec : {M : Type 1} → statement M
 decimal-length-spec =

@@ -3,7 +3,7 @@ use mathlib.Core.Path.{_∙_}
 use native.Mathlib.Omega.{arith}
 use lib.ListN.{length-set}
 use Rattle.format.specs.Line.{decimalText}
-use Rattle.writing.proofs.LineLaws.{length-64, keyed-refused, keyed-written}
+use Rattle.writing.proofs.LineLaws.{keyed-refused, keyed-written}
 use borrow.Author.Needs.{needs}
 use Rattle.writing.proofs.lines.write_decimal.Statement.{statement}
 use Rattle.writing.proofs.lines.write_decimal.Tie as tie
@@ -12,26 +12,22 @@ decimal-length-requires : tie.Need-decimal-length-requires
 decimal-length-requires c κs = tt
 
 add-size : tie.Need-add-size
-add-size c =
-    let a = c .before .before .before .args in
-    omega (arith, c .decimal-length .ensures, length-64 (a .v) (omega (arith, c .before .before .before .fits .v .fits)), c .before .before .before .good .0)
+add-size c = omega (arith, c .decimal-length .ensures .1, c .before .before .before .good .0)
 
 add-size-2 : tie.Need-add-size-2
-add-size-2 c =
-    let a = c .before .before .before .args in
-    omega (arith, c .decimal-length .ensures, length-64 (a .v) (omega (arith, c .before .before .before .fits .v .fits)), c .before .before .before .good .0)
+add-size-2 c = omega (arith, c .decimal-length .ensures .1, c .before .before .before .good .0)
 
 returns : tie.Need-returns
 returns c =
     let a = c .before .before .before .before .args in
     let value = decimalText (a .v) in
-    keyed-refused (a .key .now) value (a .buf .now) (a .at) (omega (arith, c .before .decimal-length .ensures))
+    keyed-refused (a .key .now) value (a .buf .now) (a .at) (omega (arith, c .before .decimal-length .ensures .0))
 
 returns-2 : tie.Need-returns-2
 returns-2 c =
     let a = c .before .before .before .before .before .args in
     let value = decimalText (a .v) in
-    keyed-refused (a .key .now) value (a .buf .now) (a .at) (omega (arith, c .before .before .decimal-length .ensures))
+    keyed-refused (a .key .now) value (a .buf .now) (a .at) (omega (arith, c .before .before .decimal-length .ensures .0))
 
 put-bytes-requires : tie.Need-put-bytes-requires
 put-bytes-requires c κs = search needs
@@ -54,7 +50,7 @@ returns-3 c =
     let value = decimalText (a .v) in
     let pb = c .before .before .before .before .before .before .put-bytes .ensures in
     let pv = c .before .before .put-decimal .ensures in
-    rw (pv .1, pb .1) (keyed-written (a .key .now) value (a .buf .now) (a .at) _ _ (pb .0) (omega (arith, pv .0, c .before .before .before .before .before .before .before .before .before .before .decimal-length .ensures)) (omega (arith, c .before .before .before .before .before .before .before .before .before .before .decimal-length .ensures)))
+    rw (pv .1, pb .1) (keyed-written (a .key .now) value (a .buf .now) (a .at) _ _ (pb .0) (omega (arith, pv .0, c .before .before .before .before .before .before .before .before .before .before .decimal-length .ensures .0)) (omega (arith, c .before .before .before .before .before .before .before .before .before .before .decimal-length .ensures .0)))
 
 pub write-decimal-spec : {M : Type 1} → statement M
 write-decimal-spec =
