@@ -27,9 +27,9 @@ const SET_DIGITS: u8 = 16;
 
 const SECUREBITS_DIGITS: u8 = 2;
 
-// How long the sheet of credentials is, valid or not.
+// How long the sheet of credentials is, valid or not: at most 259 bytes.
 pub fn sheet_length(held: Credentials) -> usize
-    ensures { λ r. ⌜ r ≡ length (sheetText held) ⌝ }
+    ensures { λ r. ⌜ (r ≡ length (sheetText held)) × (r ≤ 259) ⌝ }
 {
     let ids = held.uids;
     let real = decimal_length(ids.real);

@@ -29,7 +29,7 @@ add-result-4 : tie.Need-add-result-4
 add-result-4 c = omega (arith, c .before .before .before .decimal-length .ensures .1, c .before .before .decimal-length2 .ensures .1, c .before .decimal-length3 .ensures .1, c .decimal-length4 .ensures .1)
 
 returns : tie.Need-returns
-returns c = rw (length-of-sheet (c .before .before .before .before .before .args .held), ← (c .before .before .before .decimal-length .ensures .0), ← (c .before .before .decimal-length2 .ensures .0), ← (c .before .decimal-length3 .ensures .0), ← (c .decimal-length4 .ensures .0))
+returns c = (rw (length-of-sheet (c .before .before .before .before .before .args .held), ← (c .before .before .before .decimal-length .ensures .0), ← (c .before .before .decimal-length2 .ensures .0), ← (c .before .decimal-length3 .ensures .0), ← (c .decimal-length4 .ensures .0)), omega (arith, c .before .before .before .decimal-length .ensures .1, c .before .before .decimal-length2 .ensures .1, c .before .decimal-length3 .ensures .1, c .decimal-length4 .ensures .1))
 
 pub sheet-length-spec : {M : Type 1} → statement M
 sheet-length-spec =

@@ -20,12 +20,12 @@ same-length c = c .before .before .write-at .kept .0
 returns : tie.Need-returns
 returns c =
     let a = c .before .before .before .before .before .before .before .before .before .args in
-    sheet-written (a .held) (a .buf .now) _ _ (sym (c .before .before .before .before .before .before .before .is-valid .ensures) ∙ c .before .before .before .before .before .before .if1 .taken) (c .before .before .before .before .before .sheet-length .ensures) (c .before .before .before .before .if2 .taken) (c .before .before .write-at .ensures .1)
+    sheet-written (a .held) (a .buf .now) _ _ (sym (c .before .before .before .before .before .before .before .is-valid .ensures) ∙ c .before .before .before .before .before .before .if1 .taken) (c .before .before .before .before .before .sheet-length .ensures .0) (c .before .before .before .before .if2 .taken) (c .before .before .write-at .ensures .1)
 
 returns-2 : tie.Need-returns-2
 returns-2 c =
     let a = c .before .before .before .before .before .args in
-    sheet-no-room (a .held) (a .buf .now) (sym (c .before .before .before .is-valid .ensures) ∙ c .before .before .if1 .taken) (omega (arith, c .before .sheet-length .ensures, c .if2 .left))
+    sheet-no-room (a .held) (a .buf .now) (sym (c .before .before .before .is-valid .ensures) ∙ c .before .before .if1 .taken) (omega (arith, c .before .sheet-length .ensures .0, c .if2 .left))
 
 returns-3 : tie.Need-returns-3
 returns-3 c =

@@ -1,0 +1,114 @@
+-- Laws of the report, and of what a plan comes to. Assumes nothing.
+use native.Mathlib.Omega.{arith}
+use native.Mathlib.Numerals.{add-one}
+use native.Mathlib.Nat.{zero-add}
+use mathlib.Core.Path.{_≡_, refl, sym, ap, _∙_}
+use mathlib.Core.List.{List, [], _∷_, _++_, append-nil}
+use mathlib.Core.Bool.{cond}
+use Prim.Native.Nat.{ℕ, _+_, _-_, _<_, _≤_}
+use borrow.Author.Tests.{le-leb, lt-leb}
+use lib.ListN.{length, getD, take, drop, length-append, drop-of-length-le}
+use lib.Seq.{sets, sets-eq, drop-cons, getD-take, length-take-le, length-sets}
+use Rattle.credentials.specs.Validity.{valid}
+use Rattle.credentials.specs.declared.Credentials.{Credentials}
+use Rattle.rules.specs.Run.{Step, Result, run}
+use Rattle.format.specs.Line.{bytes, hexText, decimalText, keyedText, linesText, Read, read, faultAt, mapped}
+use Rattle.format.specs.Sheet.{idKinds, setKinds, flagKinds, sheetKinds, sheetText, readFront}
+use Rattle.format.specs.Plan.{readSteps, readPlan}
+use Rattle.format.specs.Report.{resultKinds, resultText, resultsText, reportText, report, malformed, invalid, verdict, outcome, buffer}
+use Rattle.format.specs.declared.Outcome.{Outcome}
+use Rattle.format.proofs.Reading.{mapped-told}
+use Rattle.writing.specs.Positions.{written}
+use Rattle.writing.proofs.LineLaws.{sets-append, length-hex, length-keyed}
+use Rattle.plan.specs.Inside.{Ran, codesOf, valuesOf, ranOf, ranSteps, answersText}
+
+-- ---- a result's two lines
+
+pub pair-text : (c v : ℕ) → linesText resultKinds (c ∷ v ∷ []) ≡ keyedText (bytes "code=") (decimalText c) ++ keyedText (bytes "value=") (hexText 16 v)
+unfolding linesText resultKinds
+pair-text c v = simp append-nil
+
+pub pair-length : (c v : ℕ) → length (linesText resultKinds (c ∷ v ∷ [])) ≡ 29 + length (decimalText c)
+pair-length c v = ap length (pair-text c v) ∙ simp (length-append, length-keyed, length-hex) (omega arith)
+
+-- ---- the results' lines
+
+module _ (codes values : List ℕ) (n : ℕ) (p : n ≤ length codes) (q : n ≤ length values) where
+  -- the lines from the j-th result on
+  abbrev pub linesFrom : ℕ → List ℕ
+  linesFrom j = answersText (drop j (take n codes)) (drop j (take n values))
+
+  pub lines-step : (j : ℕ) → j < n → linesFrom j ≡ linesText resultKinds (getD codes j 0 ∷ getD values j 0 ∷ []) ++ linesFrom (j + 1)
+  unfolding answersText
+  lines-step j h =
+      let c = drop-cons (take n codes) j 0 (omega (arith, h, length-take-le n codes p)) in
+      let v = drop-cons (take n values) j 0 (omega (arith, h, length-take-le n values q)) in
+      rw (c, v, getD-take n codes j 0 h, getD-take n values j 0 h, add-one j)
+
+  pub lines-end : (j : ℕ) → n ≤ j → linesFrom j ≡ []
+  unfolding answersText
+  lines-end j h = rw (drop-of-length-le (take n codes) {i = j} (omega (arith, h, length-take-le n codes p)))
+
+  pub lines-length : (j : ℕ) → j < n → length (linesFrom j) ≡ 29 + length (decimalText (getD codes j 0)) + length (linesFrom (j + 1))
+  lines-length j h =
+      ap length (lines-step j h)
+      ∙ length-append (linesText resultKinds (getD codes j 0 ∷ getD values j 0 ∷ [])) (linesFrom (j + 1))
+      ∙ rw (pair-length (getD codes j 0) (getD values j 0))
+
+  -- one result's lines more
+  pub put-lines : (old buf : List ℕ) (at past j : ℕ) → j < n → past ≡ at + length (linesText resultKinds (getD codes j 0 ∷ getD values j 0 ∷ []))
+      → buf ≡ sets old at (linesText resultKinds (getD codes j 0 ∷ getD values j 0 ∷ []))
+      → sets old at (linesFrom j) ≡ sets buf past (linesFrom (j + 1))
+  put-lines old buf at past j h e f =
+      rw (lines-step j h, e, f) (sets-append (linesText resultKinds (getD codes j 0 ∷ getD values j 0 ∷ [])) (linesFrom (j + 1)) old at)
+
+-- ---- the report
+
+results-text : (rs : List Result) → resultsText rs ≡ answersText (codesOf rs) (valuesOf rs)
+unfolding resultsText resultText answersText codesOf valuesOf
+results-text [] = refl
+results-text (r ∷ rs) = ap (λ (t : List ℕ). linesText resultKinds (r .code ∷ r .value ∷ []) ++ t) (results-text rs)
+
+module _ (a s old : List ℕ) where
+  pub report-done : (one two : List ℕ) (at size : ℕ) → size ≡ length a + length s → size ≤ length old → at ≡ length a → one ≡ sets old 0 a
+      → two ≡ written one at s
+      → (_≡_ {A = Outcome} (record { code = 0; line = 0; length = size }) (outcome (report (a ++ s)) (length old))) × (two ≡ buffer (report (a ++ s)) old)
+  unfolding written
+  report-done one two at size e h f g w =
+      let n : length (a ++ s) ≡ size = length-append a s ∙ sym e in
+      let l : length one ≡ length old = ap length g ∙ length-sets old 0 a in
+      let fit : 0 + length (a ++ s) ≤ length old = omega (arith, n) in
+      let all : sets (sets old 0 a) (length a) s ≡ (a ++ s) ++ drop (length (a ++ s)) old =
+      rw (← (zero-add (length a))) (sym (sets-append a s old 0)) ∙ sets-eq (a ++ s) old 0 fit ∙ rw zero-add in
+      rw (le-leb (length (a ++ s)) (length old) (omega (arith, n))) (
+        ap (λ (k : ℕ). record { code = 0; line = 0; length = k }) (sym n),
+        w ∙ rw (le-leb (at + length s) (length one) (omega (arith, e, f, l))) (rw (g, f) all),
+      )
+
+  pub report-no-room : length old < length a + length s
+      → (_≡_ {A = Outcome} (record { code = 28; line = 0; length = 0 }) (outcome (report (a ++ s)) (length old))) × (old ≡ buffer (report (a ++ s)) old)
+  report-no-room h = rw (lt-leb (length (a ++ s)) (length old) (omega (arith, length-append a s))) (refl, refl)
+
+-- ---- the plan
+
+module _ (text : List ℕ) where
+  pub front-at-fault : (line : ℕ) → readFront text ≡ faultAt line → verdict text ≡ malformed line
+  unfolding verdict readPlan
+  front-at-fault line h = rw h
+
+  fault-ran : (c : Credentials) (r : Read (List Step)) (line : ℕ) → mapped (ranOf c) r ≡ faultAt line → r ≡ faultAt line
+  fault-ran c (read ss t) line h = let z : _≡_ {A = ℕ} 0 1 = cc in absurd (omega arith)
+  fault-ran c (faultAt n) line h = let p : n ≡ line = cc in ap faultAt p
+
+  pub steps-at-fault : (c : Credentials) (rest : List ℕ) (line : ℕ) → readFront text ≡ read c rest → ranSteps 256 c rest ≡ faultAt line
+      → verdict text ≡ malformed (11 + line)
+  unfolding verdict readPlan ranSteps sheetKinds idKinds setKinds flagKinds
+  steps-at-fault c rest line h g = rw (h, fault-ran c (readSteps 256 rest) line g)
+
+  pub plan-ran : (c : Credentials) (rest : List ℕ) (x : Ran) → readFront text ≡ read c rest → ranSteps 256 c rest ≡ read x []
+      → verdict text ≡ cond (valid c) (report (answersText (x .codes) (x .values) ++ sheetText (x .last))) invalid
+  unfolding verdict readPlan ranSteps reportText
+  plan-ran c rest x h g =
+      let s = mapped-told x [] (ranOf c) (readSteps 256 rest) g in
+      rw (h, s .1, results-text (run c (s .0)))
+      (ap (λ (y : Ran). cond (valid c) (report (answersText (y .codes) (y .values) ++ sheetText (y .last))) invalid) (s .2))

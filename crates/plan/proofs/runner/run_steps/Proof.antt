@@ -1,0 +1,134 @@
+-- `plan::runner::run_steps` meets its contract. Assumes nothing.
+use mathlib.Core.Path.{_≡_, sym, ap, _∙_}
+use Prim.Native.Nat.{_≤_, _<_, _+_, _-_, suc}
+use native.Mathlib.Omega.{arith}
+use native.Mathlib.Numerals.{add-one}
+use borrow.Author.Needs.{needs}
+use lib.ListN.{length, take, drop, length-set}
+use lib.Seq.{take-suc-set}
+use Rattle.plan.specs.declared.step.StepRun.{StepRun}
+use Rattle.plan.specs.Inside.{ranSteps, seenStep}
+use Rattle.plan.proofs.StepLaws.{grown, grown-none, grown-all, grown-fault, steps-end, steps-full, steps-fault, steps-step}
+use Rattle.plan.proofs.runner.run_steps.Statement.{statement}
+use Rattle.plan.proofs.runner.run_steps.Tie as tie
+
+abbrev Inv-loop : tie.InvT-loop
+Inv-loop text first codes₀ values₀ held₀ at₀ count₀ codes values held at count = (ranSteps 256 held₀ (drop first text) ≡ grown (take count codes) (take count values) (ranSteps (256 - count) held (drop at text))) × (count ≤ 256) × (length codes ≡ 256) × (length values ≡ 256)
+
+abbrev μ-loop : tie.MeasureT-loop
+μ-loop text first codes₀ values₀ held₀ at₀ count₀ codes values held at count = 256 - count
+
+loop-holds : tie.Need-loop-holds Inv-loop μ-loop
+loop-holds c = (grown-none _, search needs, c .before .pre .0, c .before .pre .1)
+
+cast-t14 : tie.Need-cast-t14 Inv-loop μ-loop
+cast-t14 c = search needs
+
+mul-t15 : tie.Need-mul-t15 Inv-loop μ-loop
+mul-t15 c = search needs
+
+add-t16 : tie.Need-add-t16 Inv-loop μ-loop
+add-t16 c = search needs
+
+returns : tie.Need-returns Inv-loop μ-loop
+returns c =
+    let l = c .before .before .loop in
+    let t = c .before .before .before .before .args .text .now in
+    let h = c .before .loop-test .taken in (
+      rw (l .inv .0, steps-full (l .at) t (l .held) (256 - l .count) (omega (arith, c .if1 .taken)) h, grown-fault (l .codes) (take (l .count) (l .values)) (l .count) 1 (omega arith)),
+      search needs,
+      l .inv .2,
+      l .inv .3,
+    )
+
+run-step-requires : tie.Need-run-step-requires Inv-loop μ-loop
+run-step-requires c κs = tt
+
+enum-known-line : tie.Need-enum-known-line Inv-loop μ-loop
+enum-known-line c = search needs
+
+cast-t18 : tie.Need-cast-t18 Inv-loop μ-loop
+cast-t18 c = search needs
+
+mul-t19 : tie.Need-mul-t19 Inv-loop μ-loop
+mul-t19 c = search needs
+
+add-t20 : tie.Need-add-t20 Inv-loop μ-loop
+add-t20 c = let line = rw (c .before .line .given .1) at (c .before .before .before .run-step .ensures .1) in omega (arith, line)
+
+returns-2 : tie.Need-returns-2 Inv-loop μ-loop
+returns-2 c =
+    let l = c .before .before .before .before .before .before .loop in
+    let t = c .before .before .before .before .before .before .before .before .args .text .now in
+    let h = c .before .before .before .before .before .loop-test .taken in
+    let line = rw (c .before .line .given .1) at (c .before .before .before .run-step .ensures .1) in
+    let one = sym (c .before .before .before .run-step .ensures .0) ∙ ap (λ (x : StepRun). seenStep x t) (c .before .line .given .1) in (
+      rw (l .inv .0, steps-fault (l .at) t (l .held) (256 - l .count) (256 - (l .count + 1)) _ (omega arith) h one, grown-fault (l .codes) (take (l .count) (l .values)) (l .count) _ (omega arith)),
+      omega (arith, line),
+      l .inv .2,
+      l .inv .3,
+    )
+
+enum-known-given : tie.Need-enum-known-given Inv-loop μ-loop
+enum-known-given c = search needs
+
+element-write-codes : tie.Need-element-write-codes Inv-loop μ-loop
+element-write-codes c = search needs
+
+mul-values : tie.Need-mul-values Inv-loop μ-loop
+mul-values c = search needs
+
+element-write-values : tie.Need-element-write-values Inv-loop μ-loop
+element-write-values c = search needs
+
+add-count : tie.Need-add-count Inv-loop μ-loop
+add-count c = search needs
+
+loop-less : tie.Need-loop-less Inv-loop μ-loop
+loop-less c = search needs
+
+loop-again : tie.Need-loop-again Inv-loop μ-loop
+loop-again c =
+    let l = c .before .before .before .before .before .before .before .loop in
+    let t = c .before .before .before .before .before .before .before .before .before .args .text .now in
+    let h = c .before .before .before .before .before .before .loop-test .taken in
+    let one = sym (c .before .before .before .before .run-step .ensures .0) ∙ ap (λ (x : StepRun). seenStep x t) (c .before .before .given .given .1) in
+    let room : l .count < 256 = omega arith in (
+      rw (add-one (l .count), take-suc-set (l .codes) (l .count) _ (omega (arith, room)), take-suc-set (l .values) (l .count) _ (omega (arith, room)))
+          (l .inv .0 ∙ steps-step (l .at) t (l .held) (256 - l .count) (256 - suc (l .count)) (take (l .count) (l .codes)) (take (l .count) (l .values)) _ _ (omega arith) h one),
+      omega arith,
+      simp length-set (l .inv .2),
+      simp length-set (l .inv .3),
+    )
+
+returns-3 : tie.Need-returns-3 Inv-loop μ-loop
+returns-3 c =
+    let l = c .before .loop in
+    let t = c .before .before .before .args .text .now in
+    (rw (l .inv .0, steps-end (l .at) t (l .held) (256 - l .count) (c .loop-test .left)) (sym (grown-all _ _ _)), l .inv .1, l .inv .2, l .inv .3)
+
+pub run-steps-spec : {M : Type 1} → statement M
+run-steps-spec =
+    tie.close
+    (tie.spec
+    Inv-loop
+    μ-loop
+    loop-holds
+    cast-t14
+    mul-t15
+    add-t16
+    returns
+    run-step-requires
+    enum-known-line
+    cast-t18
+    mul-t19
+    add-t20
+    returns-2
+    enum-known-given
+    element-write-codes
+    mul-values
+    element-write-values
+    add-count
+    loop-less
+    loop-again
+    returns-3)

@@ -1,0 +1,85 @@
+-- How the values of private functions stand for those of the format and the rules; no public contract cites these. Assumes nothing.
+use Prim.Native.Nat.{ℕ, _≤_}
+use mathlib.Core.List.{List, [], _∷_, _++_}
+use lib.ListN.{length, take, drop}
+use Rattle.credentials.specs.declared.Credentials.{Credentials}
+use Rattle.rules.specs.Answers.{code, value, after}
+use Rattle.rules.specs.Run.{Step, Result, run, left}
+use Rattle.rules.specs.declared.Answer.{Answer}
+use Rattle.format.specs.Line.{linesText, Read, read, faultAt, mapped}
+use Rattle.format.specs.Plan.{readSteps}
+use Rattle.format.specs.Report.{resultKinds}
+use Rattle.plan.specs.declared.step.OperandLines.{OperandLines}
+use Rattle.plan.specs.declared.step.OperandLines.the-variants as operands
+use Rattle.plan.specs.declared.step.StepResult.{StepResult}
+use Rattle.plan.specs.declared.step.StepRun.{StepRun}
+use Rattle.plan.specs.declared.step.StepRun.the-variants as step
+use Rattle.plan.specs.declared.runner.StepsRun.{StepsRun}
+use Rattle.plan.specs.declared.runner.StepsRun.the-variants as steps
+
+-- ---- a step
+
+-- the text after lines is told by its position
+abbrev pub seenOperands : OperandLines → List ℕ → Read (List ℕ)
+seenOperands (operands.Are o next) text = read (o .number ∷ o .a ∷ o .b ∷ o .c ∷ []) (drop next text)
+seenOperands (operands.Fault line) text = faultAt line
+
+-- a fault is at one of the four lines
+abbrev pub OperandsEnd : OperandLines → List ℕ → Type 0
+OperandsEnd (operands.Are o next) text = next ≤ length text
+OperandsEnd (operands.Fault line) text = line ≤ 4
+
+-- what an answer comes to
+unfoldable pub resultOf : Credentials → Answer → StepResult
+resultOf held answer = record { code = code answer; value = value answer; after = after held answer }
+
+abbrev pub sameResult : StepResult → Result
+sameResult r = record { code = r .code; value = r .value; after = r .after }
+
+abbrev pub seenStep : StepRun → List ℕ → Read Result
+seenStep (step.Done r next) text = read (sameResult r) (drop next text)
+seenStep (step.Fault line) text = faultAt line
+
+abbrev pub StepEnd : StepRun → Type 0
+StepEnd (step.Done r next) = 0 ≤ 5
+StepEnd (step.Fault line) = line ≤ 5
+
+-- ---- the steps
+
+-- what steps give: their codes, their values and the last state
+pub record Ran : Type 0 where
+  pub codes : List ℕ
+  pub values : List ℕ
+  pub last : Credentials
+
+unfoldable pub codesOf : List Result → List ℕ
+codesOf [] = []
+codesOf (r ∷ rs) = r .code ∷ codesOf rs
+
+unfoldable pub valuesOf : List Result → List ℕ
+valuesOf [] = []
+valuesOf (r ∷ rs) = r .value ∷ valuesOf rs
+
+abbrev pub ranOf : Credentials → List Step → Ran
+ranOf start ss = record { codes = codesOf (run start ss); values = valuesOf (run start ss); last = left start ss }
+
+-- up to n steps, read and run
+unfoldable pub ranSteps : ℕ → Credentials → List ℕ → Read Ran
+ranSteps n start text = mapped (ranOf start) (readSteps n text)
+
+-- codes and values stand at the front of two arrays
+abbrev pub seenSteps : StepsRun → List ℕ → List ℕ → Read Ran
+seenSteps (steps.Done n last) codes values = read (record { codes = take n codes; values = take n values; last = last }) []
+seenSteps (steps.Fault line) codes values = faultAt line
+
+abbrev pub StepsEnd : StepsRun → Type 0
+StepsEnd (steps.Done n last) = n ≤ 256
+StepsEnd (steps.Fault line) = line ≤ 1281
+
+-- ---- the report
+
+-- the two lines of each code and value
+unfoldable pub answersText : List ℕ → List ℕ → List ℕ
+answersText [] vs = []
+answersText (c ∷ cs) [] = []
+answersText (c ∷ cs) (v ∷ vs) = linesText resultKinds (c ∷ v ∷ []) ++ answersText cs vs

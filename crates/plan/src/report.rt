@@ -1,0 +1,92 @@
+// The report: its length first, then the results' lines and the sheet.
+ghost use mathlib.Core.Path.{_≡_};
+ghost use mathlib.Core.List.{_++_};
+ghost use Prim.Native.Nat.{_+_, _≤_};
+ghost use lib.ListN.{length, take};
+ghost use lib.Seq.{sets};
+ghost use Rattle.format.specs.Sheet.{sheetText};
+ghost use Rattle.format.specs.Report.{report, outcome, buffer};
+ghost use Rattle.plan.specs.Inside.{answersText};
+use credentials::Credentials;
+use format::Outcome;
+use writing::decimal_length;
+use writing::write_decimal;
+use writing::write_hex;
+
+// What comes back: done, no room in the buffer.
+const DONE: u32 = 0;
+
+const NO_ROOM: u32 = 28;
+
+// How many hex digits a value has.
+const VALUE_DIGITS: u8 = 16;
+
+// The length of a result's two lines without the digits of its code.
+const FIXED_LENGTH: usize = 29;
+
+// A byte as a number of 64 bits.
+fn wide(x: u8) -> u64
+    ensures { λ r. ⌜ r ≡ x ⌝ }
+{
+    x as u64
+}
+
+// How long the lines of the first count results are.
+fn results_length(codes: &[u8; 256], values: &[u64; 256], count: usize) -> usize
+    requires { ⌜ (length (now codes) ≡ 256) × (length (now values) ≡ 256) × (count ≤ 256) ⌝ }
+    ensures { λ r. ⌜ (r ≡ length (answersText (take count (now (codes .entry))) (take count (now (values .entry))))) × (r ≤ 16384) ⌝ }
+{
+    let mut n: usize = 0;
+    let mut j: usize = 0;
+    while j < count {
+        let code = wide(codes[j]);
+        n += FIXED_LENGTH + decimal_length(code);
+        j += 1;
+    }
+    n
+}
+
+// The lines of the first count results at the front of buf: the position past them.
+fn write_results(buf: &mut [u8], codes: &[u8; 256], values: &[u64; 256], count: usize) -> usize
+    requires { ⌜ (length (now codes) ≡ 256) × (length (now values) ≡ 256) × (count ≤ 256) × (length (answersText (take count (now codes)) (take count (now values))) ≤ length (now buf)) ⌝ }
+    ensures { λ r. ⌜ (r ≡ length (answersText (take count (now (codes .entry))) (take count (now (values .entry))))) × (now (buf .exit) ≡ sets (now (buf .entry)) 0 (answersText (take count (now (codes .entry))) (take count (now (values .entry))))) ⌝ }
+{
+    let mut at: usize = 0;
+    let mut j: usize = 0;
+    while j < count {
+        let code = wide(codes[j]);
+        let value = values[j];
+        let p = write_decimal(buf, at, b"code=", code);
+        at = write_hex(buf, p, b"value=", VALUE_DIGITS, value);
+        j += 1;
+    }
+    at
+}
+
+// The report of the first count results and the credentials last at the front of buf, or that it does not fit.
+pub(crate) fn write_report(
+    buf: &mut [u8],
+    codes: &[u8; 256],
+    values: &[u64; 256],
+    count: usize,
+    last: Credentials,
+) -> Outcome
+    requires { ⌜ (length (now codes) ≡ 256) × (length (now values) ≡ 256) × (count ≤ 256) ⌝ }
+    ensures { λ r. ⌜ (r ≡ outcome (report (answersText (take count (now (codes .entry))) (take count (now (values .entry))) ++ sheetText last)) (length (now (buf .entry)))) × (now (buf .exit) ≡ buffer (report (answersText (take count (now (codes .entry))) (take count (now (values .entry))) ++ sheetText last)) (now (buf .entry))) ⌝ }
+{
+    let size = results_length(codes, values, count) + sheet::sheet_length(last);
+    if size <= buf.len() {
+        let at = write_results(buf, codes, values, count);
+        sheet::write_at(buf, at, last);
+        return Outcome {
+            code: DONE,
+            line: 0,
+            length: size as u32,
+        };
+    }
+    Outcome {
+        code: NO_ROOM,
+        line: 0,
+        length: 0,
+    }
+}

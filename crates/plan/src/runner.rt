@@ -1,0 +1,99 @@
+// The steps, one after the other, and the plan as a whole.
+ghost use mathlib.Core.Path.{_≡_};
+ghost use lib.ListN.{length, drop};
+ghost use Rattle.format.specs.Report.{verdict, outcome, buffer};
+ghost use Rattle.plan.specs.Inside.{ranSteps, seenSteps, StepsEnd};
+use crate::MOST_STEPS;
+use crate::SHEET_LINES;
+use crate::STEP_LINES;
+use crate::report::write_report;
+use crate::step::StepRun;
+use crate::step::run_step;
+use credentials::Credentials;
+use credentials::is_valid;
+use format::Outcome;
+use sheet::Front;
+
+// What comes back for a plan that is refused: malformed text, credentials that are not valid.
+const MALFORMED: u32 = 70;
+
+const INVALID: u32 = 72;
+
+// How many steps there are and what the last one leaves, or the first line of the steps that is at fault.
+pub enum StepsRun {
+    Done(usize, Credentials),
+    Fault(u32),
+}
+
+// The steps from the position first to the end of the text, the first of them on the credentials start. Their codes and values are the first of
+// the two arrays.
+fn run_steps(
+    text: &[u8],
+    first: usize,
+    start: Credentials,
+    codes: &mut [u8; 256],
+    values: &mut [u64; 256],
+) -> StepsRun
+    requires { ⌜ (length (now codes) ≡ 256) × (length (now values) ≡ 256) ⌝ }
+    ensures { λ r. ⌜ (seenSteps r (now (codes .exit)) (now (values .exit)) ≡ ranSteps 256 start (drop first (now (text .entry)))) × StepsEnd r × (length (now (codes .exit)) ≡ 256) × (length (now (values .exit)) ≡ 256) ⌝ }
+{
+    let mut held = start;
+    let mut at = first;
+    let mut count: usize = 0;
+    while at < text.len() {
+        if count == MOST_STEPS {
+            return StepsRun::Fault(STEP_LINES * (count as u32) + 1);
+        }
+        match run_step(text, at, held) {
+            StepRun::Fault(line) => {
+                return StepsRun::Fault(STEP_LINES * (count as u32) + line);
+            }
+            StepRun::Done(given, next) => {
+                codes[count] = given.code;
+                values[count] = given.value;
+                held = given.after;
+                at = next;
+                count += 1;
+            }
+        }
+    }
+    StepsRun::Done(count, held)
+}
+
+// The plan's report in the buffer, or a refusal that leaves it as it was.
+pub fn run_plan(plan: &[u8], report: &mut [u8]) -> Outcome
+    ensures { λ r. ⌜ (r ≡ outcome (verdict (now (plan .entry))) (length (now (report .entry)))) × (now (report .exit) ≡ buffer (verdict (now (plan .entry))) (now (report .entry))) ⌝ }
+{
+    match sheet::read_front(plan) {
+        Front::Fault(line) => {
+            return Outcome {
+                code: MALFORMED,
+                line,
+                length: 0,
+            };
+        }
+        Front::Sheet(start, first) => {
+            let mut codes = [0u8; 256];
+            let mut values = [0u64; 256];
+            match run_steps(plan, first, start, &mut codes, &mut values) {
+                StepsRun::Fault(line) => {
+                    return Outcome {
+                        code: MALFORMED,
+                        line: SHEET_LINES + line,
+                        length: 0,
+                    };
+                }
+                StepsRun::Done(count, last) => {
+                    if is_valid(start) {
+                        return write_report(report, &codes, &values, count, last);
+                    }
+                    return Outcome {
+                        code: INVALID,
+                        line: 0,
+                        length: 0,
+                    };
+                }
+            }
+        }
+    }
+}
