@@ -1,11 +1,13 @@
 -- The credential sheet ("Sheet, plan and report"), and what its reader and its writer answer ("What comes back"). Assumes nothing.
 use Prim.Native.Nat.{ℕ, _+_}
 use mathlib.Core.List.{List, [], _∷_, _++_}
-use mathlib.Core.Bool.{cond, _&&_}
+use mathlib.Core.Bool.{Bool, cond, _&&_}
 use lib.Dec.{leb, eqb}
 use lib.ListN.{length, getD, drop}
 use Rattle.attribute.specs.declared.Written.{Written}
 use Rattle.credentials.specs.Validity.{valid}
+use Rattle.credentials.specs.declared.Ids.{Ids}
+use Rattle.credentials.specs.declared.Sets.{Sets}
 use Rattle.credentials.specs.declared.Credentials.{Credentials}
 use Rattle.rules.specs.Fields.{number}
 use Rattle.format.specs.declared.SheetReading.{SheetReading}
@@ -41,21 +43,18 @@ sheetKinds = idKinds ++ (setKinds ++ flagKinds)
 
 -- ---- written
 
--- the values of a sheet's lines
+-- the values of a sheet's lines: the user IDs, the capability sets, securebits and no-new-privs
+abbrev pub idValues : Ids → List ℕ
+idValues u = u .real ∷ u .effective ∷ u .saved ∷ u .filesystem ∷ []
+
+abbrev pub setValues : Sets → List ℕ
+setValues s = s .permitted ∷ s .inheritable ∷ s .effective ∷ s .bounding ∷ s .ambient ∷ []
+
+abbrev pub flagValues : ℕ → Bool → List ℕ
+flagValues securebits nnp = securebits ∷ number nnp ∷ []
+
 abbrev pub sheetValues : Credentials → List ℕ
-sheetValues c =
-    c .uids .real ∷
-    c .uids .effective ∷
-    c .uids .saved ∷
-    c .uids .filesystem ∷
-    c .sets .permitted ∷
-    c .sets .inheritable ∷
-    c .sets .effective ∷
-    c .sets .bounding ∷
-    c .sets .ambient ∷
-    c .securebits ∷
-    number (c .nnp) ∷
-    []
+sheetValues c = idValues (c .uids) ++ (setValues (c .sets) ++ flagValues (c .securebits) (c .nnp))
 
 -- the sheet of credentials
 unfoldable pub sheetText : Credentials → List ℕ

@@ -9,9 +9,9 @@ ghost use Rattle.format.specs.Report.{report, outcome, buffer};
 ghost use Rattle.plan.specs.Inside.{answersText};
 use credentials::Credentials;
 use format::Outcome;
-use writing::decimal_length;
-use writing::write_decimal;
-use writing::write_hex;
+use line_writer::decimal_length;
+use line_writer::write_decimal;
+use line_writer::write_hex;
 
 // What comes back: done, no room in the buffer.
 const DONE: u32 = 0;
@@ -74,10 +74,10 @@ pub(crate) fn write_report(
     requires { ⌜ (length (now codes) ≡ 256) × (length (now values) ≡ 256) × (count ≤ 256) ⌝ }
     ensures { λ r. ⌜ (r ≡ outcome (report (answersText (take count (now (codes .entry))) (take count (now (values .entry))) ++ sheetText last)) (length (now (buf .entry)))) × (now (buf .exit) ≡ buffer (report (answersText (take count (now (codes .entry))) (take count (now (values .entry))) ++ sheetText last)) (now (buf .entry))) ⌝ }
 {
-    let size = results_length(codes, values, count) + sheet::sheet_length(last);
+    let size = results_length(codes, values, count) + sheet_writer::sheet_length(last);
     if size <= buf.len() {
         let at = write_results(buf, codes, values, count);
-        sheet::write_at(buf, at, last);
+        sheet_writer::write_at(buf, at, last);
         return Outcome {
             code: DONE,
             line: 0,

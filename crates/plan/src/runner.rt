@@ -12,7 +12,7 @@ use crate::step::run_step;
 use credentials::Credentials;
 use credentials::is_valid;
 use format::Outcome;
-use sheet::Front;
+use sheet_reader::Front;
 
 // What comes back for a plan that is refused: malformed text, credentials that are not valid.
 const MALFORMED: u32 = 70;
@@ -64,7 +64,7 @@ fn run_steps(
 pub fn run_plan(plan: &[u8], report: &mut [u8]) -> Outcome
     ensures { λ r. ⌜ (r ≡ outcome (verdict (now (plan .entry))) (length (now (report .entry)))) × (now (report .exit) ≡ buffer (verdict (now (plan .entry))) (now (report .entry))) ⌝ }
 {
-    match sheet::read_front(plan) {
+    match sheet_reader::read_front(plan) {
         Front::Fault(line) => {
             return Outcome {
                 code: MALFORMED,

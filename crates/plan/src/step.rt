@@ -7,10 +7,10 @@ ghost use Rattle.rules.specs.Run.{result};
 ghost use Rattle.plan.specs.Inside.{seenOperands, OperandsEnd, resultOf, seenStep, StepEnd};
 use crate::STEP_LINES;
 use credentials::Credentials;
-use reading::Line;
-use reading::read_attribute;
-use reading::read_decimal;
-use reading::read_hex16;
+use line_reader::Line;
+use line_reader::read_attribute;
+use line_reader::read_decimal;
+use line_reader::read_hex16;
 use rules::Answer;
 
 // The largest call number that can be written.

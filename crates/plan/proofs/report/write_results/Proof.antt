@@ -8,7 +8,7 @@ use lib.ListN.{length, take, drop, getD, length-append}
 use lib.Seq.{sets}
 use Rattle.format.specs.Line.{bytes, keyedText, decimalText, hexText, linesText}
 use Rattle.format.specs.Report.{resultKinds}
-use Rattle.writing.proofs.LineLaws.{written-first, written-next}
+use Rattle.line_writer.proofs.LineLaws.{written-first, written-next}
 use Rattle.plan.specs.Inside.{answersText}
 use Rattle.plan.proofs.ReportLaws.{pair-text, lines-step, lines-end, put-lines}
 use Rattle.plan.proofs.report.write_results.Statement.{statement}

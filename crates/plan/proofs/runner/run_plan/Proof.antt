@@ -1,7 +1,7 @@
 -- `plan::runner::run_plan` meets its contract. Assumes nothing.
 use mathlib.Core.Path.{refl, sym, ap, _∙_}
 use native.Mathlib.Omega.{arith}
-use Rattle.sheet.proofs.Whole.{front-told, front-fault}
+use Rattle.sheet_reader.proofs.Whole.{front-told, front-fault}
 use Rattle.plan.specs.declared.runner.StepsRun.{StepsRun}
 use Rattle.plan.specs.Inside.{seenSteps}
 use Rattle.plan.proofs.ReportLaws.{front-at-fault, steps-at-fault, plan-ran}

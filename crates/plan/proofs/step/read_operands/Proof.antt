@@ -2,7 +2,7 @@
 use mathlib.Core.Path.{sym, _∙_}
 use Rattle.format.specs.Line.{readLines}
 use Rattle.format.specs.Step.{stepKinds}
-use Rattle.reading.proofs.Answers.{line-read, line-fault}
+use Rattle.line_reader.proofs.Answers.{line-read, line-fault}
 use borrow.Author.Needs.{needs}
 use Rattle.plan.proofs.step.read_operands.Statement.{statement}
 use Rattle.plan.proofs.step.read_operands.Tie as tie

@@ -3,8 +3,8 @@ use mathlib.Core.Path.{sym, ap, _∙_}
 use native.Mathlib.Omega.{arith}
 use native.Mathlib.Nat.{sub-zero}
 use Rattle.rules.specs.Run.{result}
-use Rattle.reading.specs.declared.Attribute.{Attribute}
-use Rattle.reading.proofs.Answers.{attribute-read, attribute-fault}
+use Rattle.line_reader.specs.declared.Attribute.{Attribute}
+use Rattle.line_reader.proofs.Answers.{attribute-read, attribute-fault}
 use Rattle.plan.specs.declared.step.OperandLines.{OperandLines}
 use Rattle.plan.specs.Inside.{seenOperands, resultOf}
 use Rattle.plan.proofs.StepLaws.{operands-at-fault, attribute-at-fault, step-whole}

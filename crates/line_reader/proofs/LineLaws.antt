@@ -1,0 +1,186 @@
+-- Laws of reading at a position, for the readers' loops and answers. Assumes nothing.
+use native.Mathlib.Omega.{arith}
+use mathlib.Core.Path.{_≡_, refl, ap, _∙_}
+use mathlib.Core.List.{List, [], _∷_}
+use mathlib.Core.Bool.{Bool, true, false, cond, _&&_}
+use Prim.Native.Nat.{ℕ, zero, suc, _+_, _-_, _*_, _<_, _≤_, _^_}
+use native.Mathlib.Numerals.{add-one}
+use native.Mathlib.Nat.{le-of-suc-le-suc, not-suc-le-zero, pow-suc, pow-le-pow-right}
+use lib.Dec.{ltb, leb, eqb}
+use lib.ListN.{length, getD, drop, length-drop, drop-of-length-le}
+use lib.Seq.{drop-cons, drop-drop, getD-drop}
+use Rattle.format.specs.Line.{Form, decimal, hex, Read, read, fault, hexDigit, decimalDigit, newline, readHex, readDigits, readDecimal, readValue, afterKey}
+use Rattle.line_reader.specs.declared.Line.the-variants.{Is, Fault}
+use Rattle.line_reader.specs.declared.lines.Digits.{Digits}
+use Rattle.line_reader.specs.declared.lines.Digits.the-variants.{Make, No}
+use Rattle.line_reader.specs.Positions.{placed, lineAt}
+use Rattle.line_reader.specs.Inside.{startsWith, hexOf}
+
+cond-same : {A : Type 0} (t : Bool) (x : A) → cond t x x ≡ x
+cond-same true x = refl
+cond-same false x = refl
+
+-- the position of what is left of a text
+pub position : (text : List ℕ) (i : ℕ) → i ≤ length text → length text - length (drop i text) ≡ i
+position text i h = omega (arith, length-drop i text)
+
+-- ---- the key
+
+pub starts-step : (key text : List ℕ) (k i j : ℕ) → k < length key → i < length text → j ≡ i + 1
+    → startsWith (drop k key) (drop i text) ≡ cond (eqb (getD text i 0) (getD key k 0)) (startsWith (drop (k + 1) key) (drop j text)) false
+unfolding startsWith
+starts-step key text k i j h g e = rw (drop-cons key k 0 h, drop-cons text i 0 g, e, add-one i, add-one k)
+
+pub starts-end : (key t : List ℕ) (k : ℕ) → length key ≤ k → startsWith (drop k key) t ≡ true
+unfolding startsWith
+starts-end key t k h = rw (drop-of-length-le key h)
+
+both-true : (s x : Bool) → cond s x false ≡ true → (s ≡ true) × (x ≡ true)
+both-true true x h = (refl, h)
+both-true false x h = let z : _≡_ {A = ℕ} 0 1 = cc in absurd (omega arith)
+
+pub key-there : {A : Type 0} (key : List ℕ) (f : List ℕ → Read A) (t : List ℕ) → startsWith key t ≡ true → afterKey key f t ≡ f (drop (length key) t)
+unfolding startsWith afterKey
+key-there [] f t h = refl
+key-there (k ∷ ks) f [] h = let z : _≡_ {A = ℕ} 0 1 = cc in absurd (omega arith)
+key-there (k ∷ ks) f (b ∷ t) h =
+    let e = both-true (eqb b k) (startsWith ks t) h in
+    rw (e .0) (key-there ks f t (e .1))
+
+by-byte : {A : Type 0} (s x : Bool) (r : Read A) → cond s x false ≡ false → (x ≡ false → r ≡ fault) → cond s r fault ≡ fault
+by-byte true x r h f = f h
+by-byte false x r h f = refl
+
+pub key-missing : {A : Type 0} (key : List ℕ) (f : List ℕ → Read A) (t : List ℕ) → startsWith key t ≡ false → afterKey key f t ≡ fault
+unfolding startsWith afterKey
+key-missing [] f t h = let z : _≡_ {A = ℕ} 0 1 = cc in absurd (omega arith)
+key-missing (k ∷ ks) f [] h = refl
+key-missing (k ∷ ks) f (b ∷ t) h = by-byte (eqb b k) (startsWith ks t) (afterKey ks f t) h (λ g. key-missing ks f t g)
+
+-- a text too short for a key and m bytes more, without which there is no value
+pub key-short : {A : Type 0} (m : ℕ) (key : List ℕ) (f : List ℕ → Read A) (t : List ℕ) → ((u : List ℕ) → length u < m → f u ≡ fault)
+    → length t < length key + m → afterKey key f t ≡ fault
+unfolding afterKey
+key-short m [] f t g h = g t (omega arith)
+key-short m (k ∷ ks) f [] g h = refl
+key-short m (k ∷ ks) f (b ∷ t) g h = rw (key-short m ks f t g (omega arith)) (cond-same (eqb b k) fault)
+
+-- ---- hex digits
+
+pub hex-step : (n m v i j : ℕ) (text : List ℕ) → n ≡ m + 1 → j ≡ i + 1 → i < length text
+    → hexOf n v (drop i text) ≡ cond (ltb (hexDigit (getD text i 0)) 16) (hexOf m (v * 16 + hexDigit (getD text i 0)) (drop j text)) No
+unfolding hexOf
+hex-step n m v i j text h e g = rw (drop-cons text i 0 g, e, h, add-one i, add-one m)
+
+pub hex-end : (n v : ℕ) (t : List ℕ) → n ≡ 0 → hexOf n v t ≡ Make v
+unfolding hexOf
+hex-end n v t h = rw h
+
+-- fewer than 16 digits leave room for one more in 64 bits
+pub hex-room : (k v : ℕ) → k < 16 → v < 16 ^ k → v < 1152921504606846976
+hex-room k v h g = omega (arith, pow-le-pow-right {n = 16} (omega arith) {i = k} {j = 15} (le-of-suc-le-suc h))
+
+pub hex-grows : (k v d : ℕ) → v < 16 ^ k → d < 16 → v * 16 + d < 16 ^ (k + 1)
+hex-grows k v d h g = rw (add-one k, pow-suc 16 k) (omega arith)
+
+-- digits that make a number, then what the byte past them decides
+abbrev made : Digits → (ℕ → Read ℕ) → Read ℕ
+made (Make v) f = f v
+made No f = fault
+
+made-if : (s : Bool) (x : Digits) (r : Read ℕ) (f : ℕ → Read ℕ) → r ≡ made x f → cond s r fault ≡ made (cond s x No) f
+made-if true x r f h = h
+made-if false x r f h = refl
+
+hex-made : (n v : ℕ) (t : List ℕ) → n < length t
+    → readHex n v t ≡ made (hexOf n v t) (λ w. cond (eqb (getD t n 0) newline) (read w (drop (suc n) t)) fault)
+unfolding readHex hexOf
+hex-made n v [] h = absurd (not-suc-le-zero h)
+hex-made zero v (b ∷ t) h = refl
+hex-made (suc n) v (b ∷ t) h =
+    made-if (ltb (hexDigit b) 16) (hexOf n (v * 16 + hexDigit b) t) (readHex n (v * 16 + hexDigit b) t)
+    (λ w. cond (eqb (getD t n 0) newline) (read w (drop (suc n) t)) fault)
+    (hex-made n (v * 16 + hexDigit b) t (le-of-suc-le-suc h))
+
+hex-short : (n v : ℕ) (t : List ℕ) → length t < n + 1 → readHex n v t ≡ fault
+unfolding readHex
+hex-short zero v [] h = refl
+hex-short zero v (b ∷ t) h = absurd (omega arith)
+hex-short (suc n) v [] h = refl
+hex-short (suc n) v (b ∷ t) h = rw (hex-short n (v * 16 + hexDigit b) t (omega arith)) (cond-same (ltb (hexDigit b) 16) fault)
+
+-- ---- a line at a position
+
+module _ (key : List ℕ) (form : Form) (text : List ℕ) (at : ℕ) where
+  pub line-missing : startsWith key (drop at text) ≡ false → lineAt key form text at ≡ Fault
+  unfolding lineAt
+  line-missing h = rw (key-missing key (readValue form) (drop at text) h)
+
+  pub line-there : startsWith key (drop at text) ≡ true → lineAt key form text at ≡ placed text (readValue form (drop (at + length key) text))
+  unfolding lineAt
+  line-there h =
+      ap (placed text) (key-there key (readValue form) (drop at text) h ∙ ap (readValue form) (drop-drop (length key) at text))
+
+module _ (key : List ℕ) (n : ℕ) (text : List ℕ) (at : ℕ) where
+  -- too short for the key, n digits and a newline
+  pub hex-line-short : length text < at + (length key + n + 1) → lineAt key (hex n) text at ≡ Fault
+  unfolding lineAt
+  hex-line-short h =
+      rw (key-short (n + 1) key (readHex n 0) (drop at text) (λ u g. hex-short n 0 u g) (omega (arith, length-drop at text)))
+
+  line-made : startsWith key (drop at text) ≡ true → at + length key + n < length text
+      → lineAt key (hex n) text at
+      ≡ placed text (made (hexOf n 0 (drop (at + length key) text)) (λ w. cond (eqb (getD text (at + length key + n) 0) newline) (read w (drop (at + length key + n + 1) text)) fault))
+  line-made h g =
+      let p = at + length key in
+      let e : getD (drop p text) n 0 ≡ getD text (p + n) 0 = getD-drop p text n 0 in
+      let s : p + suc n ≡ p + n + 1 = omega arith in
+      let f : drop (suc n) (drop p text) ≡ drop (p + n + 1) text = drop-drop (suc n) p text ∙ ap (λ (k : ℕ). drop k text) s in
+      line-there key (hex n) text at h
+      ∙ ap (placed text) (hex-made n 0 (drop p text) (omega (arith, length-drop p text)))
+      ∙ ap (λ (k : ℕ). placed text (made (hexOf n 0 (drop p text)) (λ w. cond (eqb k newline) (read w (drop (suc n) (drop p text))) fault))) e
+      ∙ ap (λ (u : List ℕ). placed text (made (hexOf n 0 (drop p text)) (λ w. cond (eqb (getD text (p + n) 0) newline) (read w u) fault))) f
+
+  -- a digit is none
+  pub hex-line-no : startsWith key (drop at text) ≡ true → at + length key + n < length text → hexOf n 0 (drop (at + length key) text) ≡ No
+      → lineAt key (hex n) text at ≡ Fault
+  hex-line-no h g e = line-made h g ∙ rw e
+
+  -- the digits do not end in a newline
+  pub hex-line-longer : (v : ℕ) → startsWith key (drop at text) ≡ true → at + length key + n < length text → hexOf n 0 (drop (at + length key) text) ≡ Make v
+      → eqb (getD text (at + length key + n) 0) newline ≡ false → lineAt key (hex n) text at ≡ Fault
+  hex-line-longer v h g e b = line-made h g ∙ rw (e, b)
+
+  pub hex-line-is : (v : ℕ) → startsWith key (drop at text) ≡ true → at + length key + n < length text → hexOf n 0 (drop (at + length key) text) ≡ Make v
+      → eqb (getD text (at + length key + n) 0) newline ≡ true → lineAt key (hex n) text at ≡ Is v (at + length key + n + 1)
+  hex-line-is v h g e b = line-made h g ∙ rw (e, b) (ap (Is v) (position text (at + length key + n + 1) (omega arith)))
+
+-- ---- decimal numbers
+
+decimal-none : (m : ℕ) (t : List ℕ) → length t < 1 → readDecimal m t ≡ fault
+unfolding readDecimal
+decimal-none m [] h = refl
+decimal-none m (b ∷ t) h = absurd (omega arith)
+
+-- too short for the key and a digit
+pub decimal-line-short : (key : List ℕ) (m : ℕ) (text : List ℕ) (at : ℕ) → length text < at + (length key + 1) → lineAt key (decimal m) text at ≡ Fault
+unfolding lineAt
+decimal-line-short key m text at h =
+    rw (key-short 1 key (readDecimal m) (drop at text) (decimal-none m) (omega (arith, length-drop at text)))
+
+module _ (m i : ℕ) (text : List ℕ) (h : i < length text) where
+  pub decimal-step : readDecimal m (drop i text)
+      ≡ cond (ltb (decimalDigit (getD text i 0)) 10 && leb (decimalDigit (getD text i 0)) m) (readDigits m (decimalDigit (getD text i 0)) (drop (i + 1) text)) fault
+  unfolding readDecimal
+  decimal-step = rw (drop-cons text i 0 h, add-one i)
+
+  pub digits-step : (v : ℕ) → readDigits m v (drop i text)
+      ≡ cond (eqb (getD text i 0) newline) (read v (drop (i + 1) text))
+      (cond (eqb v 0) fault
+      (cond (ltb (decimalDigit (getD text i 0)) 10 && leb (v * 10 + decimalDigit (getD text i 0)) m) (readDigits m (v * 10 + decimalDigit (getD text i 0)) (drop (i + 1) text)) fault))
+  unfolding readDigits
+  digits-step v = rw (drop-cons text i 0 h, add-one i)
+
+pub digits-end : (m v : ℕ) (text : List ℕ) (i : ℕ) → length text ≤ i → readDigits m v (drop i text) ≡ fault
+unfolding readDigits
+digits-end m v text i h = rw (drop-of-length-le text h)

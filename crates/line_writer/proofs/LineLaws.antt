@@ -1,0 +1,142 @@
+-- Laws of a run of stores, and of the texts that the writers write. Assumes nothing.
+use mathlib.Core.Path.{_≡_, refl, sym, ap, _∙_}
+use mathlib.Core.List.{List, [], _∷_, _++_}
+use mathlib.Core.Logic.{⊎-elim}
+use Prim.Native.Nat.{ℕ, zero, suc, _+_, _-_, _*_, _/_, _%_, _^_, _<_, _≤_}
+use native.Mathlib.Nat.{add-zero, add-suc, suc-add, pow-suc}
+use native.Mathlib.Numerals.{add-one}
+use native.Mathlib.Omega.{arith}
+use borrow.Author.Tests.{le-leb, lt-leb}
+use lib.ListN.{length, getD, set, drop, length-append, drop-of-length-le}
+use lib.Seq.{sets, set-comm, drop-cons, length-sets}
+use Rattle.format.specs.Line.{bytes, digit, hexText, decimalText, keyedText}
+use Rattle.format.proofs.Decimals.{below-or-not, decimal-one, decimal-more}
+use Rattle.line_writer.specs.Positions.{written, writtenTo}
+
+pub sets-append : (xs ys l : List ℕ) (i : ℕ) → sets l i (xs ++ ys) ≡ sets (sets l i xs) (i + length xs) ys
+sets-append [] ys l i = rw (add-zero i)
+sets-append (x ∷ xs) ys l i = sets-append xs ys (set l i x) (suc i) ∙ rw (suc-add i (length xs), add-suc i (length xs))
+
+-- the last one first
+sets-last : (xs : List ℕ) (y : ℕ) (l : List ℕ) (i : ℕ) → sets l i (xs ++ (y ∷ [])) ≡ sets (set l (i + length xs) y) i xs
+sets-last [] y l i = rw (add-zero i)
+sets-last (x ∷ xs) y l i =
+    sets-last xs y (set l i x) (suc i)
+    ∙ rw (suc-add i (length xs), add-suc i (length xs), set-comm l i (suc (i + length xs)) x y (λ e. omega (arith, e)))
+
+-- ---- bytes
+
+pub put-byte : (src l : List ℕ) (k i j : ℕ) → k < length src → j ≡ i + 1
+    → sets l i (drop k src) ≡ sets (set l i (getD src k 0)) j (drop (k + 1) src)
+put-byte src l k i j h e = rw (drop-cons src k 0 h, e, add-one i, add-one k)
+
+pub put-no-byte : (src l : List ℕ) (k i : ℕ) → length src ≤ k → sets l i (drop k src) ≡ l
+put-no-byte src l k i h = rw (drop-of-length-le src h)
+
+-- ---- hex digits
+
+pub length-hex : (n v : ℕ) → length (hexText n v) ≡ n
+unfolding hexText
+length-hex zero v = refl
+length-hex (suc n) v = simp (length-append, length-hex n (v / 16), add-one)
+
+pub put-hex-digit : (n m v : ℕ) (l : List ℕ) (i : ℕ) → n ≡ m + 1
+    → sets l i (hexText n v) ≡ sets (set l (i + m) (digit (v % 16))) i (hexText m (v / 16))
+unfolding hexText
+put-hex-digit n m v l i h = rw (h, add-one m) (sets-last (hexText m (v / 16)) (digit (v % 16)) l i ∙ rw (length-hex m (v / 16)))
+
+pub put-no-hex : (m v : ℕ) (l : List ℕ) (i : ℕ) → m ≡ 0 → sets l i (hexText m v) ≡ l
+unfolding hexText
+put-no-hex m v l i h = rw h
+
+-- ---- decimal digits
+
+pub length-more : (v : ℕ) → 10 ≤ v → length (decimalText v) ≡ length (decimalText (v / 10)) + 1
+length-more v h = ap length (decimal-more v h) ∙ length-append (decimalText (v / 10)) (digit (v % 10) ∷ [])
+
+pub length-one : (v : ℕ) → v < 10 → length (decimalText v) ≡ 1
+length-one v h = ap length (decimal-one v h)
+
+pub length-some : (v : ℕ) → 1 ≤ length (decimalText v)
+length-some v =
+    ⊎-elim (λ (l : v < 10). omega (arith, length-one v l)) (λ (l : 10 ≤ v). omega (arith, length-more v l)) (below-or-not v 10)
+
+at-most : (n v : ℕ) → v < 10 ^ suc n → length (decimalText v) ≤ suc n
+at-most zero v h = omega (arith, length-one v h)
+at-most (suc n) v h =
+    let q : v < 10 ^ suc n * 10 = rw pow-suc at h in
+    ⊎-elim
+    (λ (l : v < 10). omega (arith, length-one v l))
+    (λ (l : 10 ≤ v). omega (arith, length-more v l, at-most n (v / 10) (omega arith)))
+    (below-or-not v 10)
+
+-- a number of 64 bits has at most 20 digits
+pub length-64 : (v : ℕ) → v < 2 ^ 64 → length (decimalText v) ≤ 20
+length-64 v h = at-most 19 v (omega arith)
+
+-- and one of 32 bits at most 10
+pub length-32 : (v : ℕ) → v < 2 ^ 32 → length (decimalText v) ≤ 10
+length-32 v h = at-most 9 v (omega arith)
+
+pub put-decimal-digit : (v m : ℕ) (l : List ℕ) (i : ℕ) → 10 ≤ v → length (decimalText v) ≡ m + 1
+    → sets l i (decimalText v) ≡ sets (set l (i + m) (digit (v % 10))) i (decimalText (v / 10))
+put-decimal-digit v m l i h e =
+    let q : length (decimalText (v / 10)) ≡ m = omega (arith, length-more v h, e) in
+    rw (decimal-more v h) (sets-last (decimalText (v / 10)) (digit (v % 10)) l i ∙ rw q)
+
+pub put-first-digit : (v : ℕ) (l : List ℕ) (i : ℕ) → v < 10 → sets l i (decimalText v) ≡ set l i (digit v)
+put-first-digit v l i h = rw (decimal-one v h)
+
+-- ---- a line
+
+pub length-keyed : (key value : List ℕ) → length (keyedText key value) ≡ length key + length value + 1
+unfolding keyedText
+length-keyed key value = simp (length-append) (omega arith)
+
+put-keyed : (key value l : List ℕ) (at p q : ℕ) → p ≡ at + length key → q ≡ p + length value
+    → set (sets (sets l at key) p value) q 10 ≡ sets l at (keyedText key value)
+unfolding keyedText
+put-keyed key value l at p q hp hq =
+    sym (sets-append key (value ++ bytes "\n") l at ∙ rw (← hp) (sets-append value (bytes "\n") (sets l at key) p ∙ rw (← hq)))
+
+-- a text that does not fit
+pub text-refused : (t old : List ℕ) (at : ℕ) → length old < at + length t → (at ≡ writtenTo old at t) × (old ≡ written old at t)
+unfolding written writtenTo
+text-refused t old at h = rw (lt-leb (at + length t) (length old) h) (refl, refl)
+
+module _ (key value old : List ℕ) (at : ℕ) where
+  -- a line that does not fit
+  pub keyed-refused : length old < at + (length key + length value + 1)
+      → (at ≡ writtenTo old at (keyedText key value)) × (old ≡ written old at (keyedText key value))
+  keyed-refused h = text-refused (keyedText key value) old at (omega (arith, length-keyed key value))
+
+  -- and one that does
+  pub keyed-written : (p q : ℕ) → p ≡ at + length key → q ≡ p + length value → at + (length key + length value + 1) ≤ length old
+      → (q + 1 ≡ writtenTo old at (keyedText key value)) × (set (sets (sets old at key) p value) q 10 ≡ written old at (keyedText key value))
+  unfolding written writtenTo
+  keyed-written p q hp hq h =
+      let e = le-leb (at + length (keyedText key value)) (length old) (omega (arith, length-keyed key value)) in
+      rw e (omega (arith, length-keyed key value), put-keyed key value old at p q hp hq)
+
+-- ---- texts one after the other
+
+module _ (old : List ℕ) (at : ℕ) where
+  -- a text that fits
+  pub written-first : (t buf : List ℕ) (r : ℕ) → at + length t ≤ length old → r ≡ writtenTo old at t → buf ≡ written old at t
+      → (r ≡ at + length t) × (buf ≡ sets old at t)
+  unfolding written writtenTo
+  written-first t buf r h p q =
+      let e = le-leb (at + length t) (length old) h in
+      (p ∙ rw e, q ∙ rw e)
+
+  -- and one behind it
+  pub written-next : (t u before buf : List ℕ) (pos r : ℕ) → (pos ≡ at + length t) × (before ≡ sets old at t) → at + length (t ++ u) ≤ length old
+      → r ≡ writtenTo before pos u → buf ≡ written before pos u
+      → (r ≡ at + length (t ++ u)) × (buf ≡ sets old at (t ++ u))
+  unfolding written writtenTo
+  written-next t u before buf pos r s h p q =
+      let n : length (t ++ u) ≡ length t + length u = length-append t u in
+      let l : length before ≡ length old = ap length (s .1) ∙ length-sets old at t in
+      let e = le-leb (pos + length u) (length before) (omega (arith, s .0, n, l)) in
+      let g : pos + length u ≡ at + length (t ++ u) = omega (arith, s .0, n) in
+      (p ∙ rw e g, q ∙ rw e (rw (s .1, s .0) (sym (sets-append t u old at))))

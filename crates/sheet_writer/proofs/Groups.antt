@@ -1,0 +1,114 @@
+-- Laws of the sheet's three groups of lines, written one after the other. Assumes nothing.
+use native.Mathlib.Omega.{arith}
+use native.Mathlib.Nat.{add-assoc}
+use mathlib.Core.Path.{_≡_, refl, sym, ap, _∙_}
+use mathlib.Core.List.{List, [], _∷_, _++_, append-assoc, append-nil}
+use mathlib.Core.Bool.{Bool, true, false}
+use Prim.Native.Nat.{ℕ, _+_, _-_, _≤_}
+use lib.ListN.{length, length-append}
+use lib.Seq.{sets}
+use borrow.Author.Tests.{le-leb}
+use Rattle.credentials.specs.declared.Ids.{Ids}
+use Rattle.credentials.specs.declared.Sets.{Sets}
+use Rattle.credentials.specs.declared.Credentials.{Credentials}
+use Rattle.rules.specs.Fields.{number}
+use Rattle.format.specs.Line.{bytes, Kind, hexText, decimalText, keyedText, lineText, linesText}
+use Rattle.format.specs.Sheet.{idKinds, setKinds, flagKinds, sheetKinds, sheetText, idValues, setValues, flagValues}
+use Rattle.line_writer.proofs.LineLaws.{sets-append, length-hex, length-keyed, length-one}
+use Rattle.line_writer.specs.Positions.{written, writtenTo}
+
+text-grouped : (ks ls : List Kind) (vs ws : List ℕ) → length ks ≡ length vs → linesText (ks ++ ls) (vs ++ ws) ≡ linesText ks vs ++ linesText ls ws
+unfolding linesText
+text-grouped [] ls [] ws e = refl
+text-grouped [] ls (v ∷ vs) ws e = absurd (omega (arith, e))
+text-grouped (k ∷ ks) ls [] ws e = absurd (omega (arith, e))
+text-grouped (k ∷ ks) ls (v ∷ vs) ws e =
+    ap (λ (t : List ℕ). lineText k v ++ t) (text-grouped ks ls vs ws (omega (arith, e))) ∙ sym (append-assoc (lineText k v) (linesText ks vs) (linesText ls ws))
+
+pub sheet-text : (c : Credentials)
+    → sheetText c ≡ linesText idKinds (idValues (c .uids)) ++ (linesText setKinds (setValues (c .sets)) ++ linesText flagKinds (flagValues (c .securebits) (c .nnp)))
+unfolding sheetText sheetKinds idKinds setKinds
+sheet-text c =
+    text-grouped idKinds (setKinds ++ flagKinds) (idValues (c .uids)) (setValues (c .sets) ++ flagValues (c .securebits) (c .nnp)) refl
+    ∙ ap (λ (t : List ℕ). linesText idKinds (idValues (c .uids)) ++ t) (text-grouped setKinds flagKinds (setValues (c .sets)) (flagValues (c .securebits) (c .nnp)) refl)
+
+abbrev decimalLine : List ℕ → ℕ → List ℕ
+decimalLine key v = keyedText key (decimalText v)
+
+pub ids-text : (u : Ids) → linesText idKinds (idValues u)
+    ≡ ((keyedText (bytes "ruid=") (decimalText (u .real)) ++ keyedText (bytes "euid=") (decimalText (u .effective))) ++ keyedText (bytes "suid=") (decimalText (u .saved))) ++ keyedText (bytes "fsuid=") (decimalText (u .filesystem))
+unfolding linesText idKinds
+ids-text u = simp (append-assoc, append-nil)
+
+pub sets-text : (s : Sets) → linesText setKinds (setValues s)
+    ≡ (((keyedText (bytes "permitted=") (hexText 16 (s .permitted)) ++ keyedText (bytes "inheritable=") (hexText 16 (s .inheritable))) ++ keyedText (bytes "effective=") (hexText 16 (s .effective))) ++ keyedText (bytes "bounding=") (hexText 16 (s .bounding))) ++ keyedText (bytes "ambient=") (hexText 16 (s .ambient))
+unfolding linesText setKinds
+sets-text s = simp (append-assoc, append-nil)
+
+flags-text : (securebits : ℕ) (nnp : Bool) → linesText flagKinds (flagValues securebits nnp)
+    ≡ keyedText (bytes "securebits=") (hexText 2 securebits) ++ keyedText (bytes "nnp=") (decimalText (number nnp))
+unfolding linesText flagKinds
+flags-text securebits nnp = simp (append-nil)
+
+pub flags-text-set : (securebits : ℕ) (nnp : Bool) → nnp ≡ true → linesText flagKinds (flagValues securebits nnp)
+    ≡ keyedText (bytes "securebits=") (hexText 2 securebits) ++ keyedText (bytes "nnp=") (decimalText 1)
+unfolding number
+flags-text-set securebits nnp e = flags-text securebits nnp ∙ rw e
+
+pub flags-text-clear : (securebits : ℕ) (nnp : Bool) → nnp ≡ false → linesText flagKinds (flagValues securebits nnp)
+    ≡ keyedText (bytes "securebits=") (hexText 2 securebits) ++ keyedText (bytes "nnp=") (decimalText 0)
+unfolding number
+flags-text-clear securebits nnp e = flags-text securebits nnp ∙ rw e
+
+-- ---- lengths
+
+flag-length : (nnp : Bool) → length (decimalText (number nnp)) ≡ 1
+unfolding number
+flag-length true = length-one 1 (omega arith)
+flag-length false = length-one 0 (omega arith)
+
+pub ids-length : (u : Ids) → length (linesText idKinds (idValues u))
+    ≡ 25 + length (decimalText (u .real)) + length (decimalText (u .effective)) + length (decimalText (u .saved)) + length (decimalText (u .filesystem))
+ids-length u = ap length (ids-text u) ∙ simp (length-append, length-keyed) (omega arith)
+
+pub sets-length : (s : Sets) → length (linesText setKinds (setValues s)) ≡ 134
+sets-length s = ap length (sets-text s) ∙ simp (length-append, length-keyed, length-hex)
+
+pub flags-length : (securebits : ℕ) (nnp : Bool) → length (linesText flagKinds (flagValues securebits nnp)) ≡ 20
+flags-length securebits nnp = ap length (flags-text securebits nnp) ∙ simp (length-append, length-keyed, length-hex, flag-length nnp)
+
+pub length-of-sheet : (c : Credentials) → length (sheetText c)
+    ≡ 179 + length (decimalText (c .uids .real)) + length (decimalText (c .uids .effective)) + length (decimalText (c .uids .saved)) + length (decimalText (c .uids .filesystem))
+length-of-sheet c =
+    ap length (sheet-text c)
+    ∙ simp (length-append, ids-length (c .uids), sets-length (c .sets), flags-length (c .securebits) (c .nnp)) (omega arith)
+
+-- ---- the three groups, one after the other
+
+module _ (c : Credentials) where
+  abbrev idsText : List ℕ
+  idsText = linesText idKinds (idValues (c .uids))
+
+  abbrev setsText : List ℕ
+  setsText = linesText setKinds (setValues (c .sets))
+
+  abbrev flagsText : List ℕ
+  flagsText = linesText flagKinds (flagValues (c .securebits) (c .nnp))
+
+  pub length-grouped : length (sheetText c) ≡ length idsText + (length setsText + length flagsText)
+  length-grouped = ap length (sheet-text c) ∙ simp length-append
+
+  pub sheet-put : (old one two three : List ℕ) (at p q r : ℕ) → (p ≡ at + length idsText) × (one ≡ sets old at idsText)
+      → (q ≡ p + length setsText) × (two ≡ sets one p setsText) → (r ≡ q + length flagsText) × (three ≡ sets two q flagsText)
+      → at + length (sheetText c) ≤ length old → (r ≡ writtenTo old at (sheetText c)) × (three ≡ written old at (sheetText c))
+  unfolding written writtenTo
+  sheet-put old one two three at p q r e f g h =
+      let room = le-leb (at + length (sheetText c)) (length old) h in
+      let first : two ≡ sets old at (idsText ++ setsText) =
+      f .1 ∙ rw (e .1, e .0) (sym (sets-append idsText setsText old at)) in
+      let all : three ≡ sets old at ((idsText ++ setsText) ++ flagsText) =
+      g .1 ∙ rw (first, f .0, e .0) (rw (add-assoc at (length idsText) (length setsText), ← (length-append idsText setsText)) (sym (sets-append (idsText ++ setsText) flagsText old at))) in
+      rw room (
+        omega (arith, e .0, f .0, g .0, length-grouped),
+        all ∙ ap (sets old at) (append-assoc idsText setsText flagsText ∙ sym (sheet-text c)),
+      )
