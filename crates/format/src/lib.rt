@@ -13,7 +13,7 @@ pub enum SheetReading {
 
 // What the plan runner answers: its code, the line of a fault, 0 but for 70, and the report's length, 0 where the plan is refused.
 pub struct Outcome {
-    pub code: u32,
+    pub code: u8,
     pub line: u32,
     pub length: u32,
 }

@@ -14,9 +14,9 @@ use line_writer::write_decimal;
 use line_writer::write_hex;
 
 // What comes back: done, no room in the buffer.
-const DONE: u32 = 0;
+const DONE: u8 = 0;
 
-const NO_ROOM: u32 = 28;
+const NO_ROOM: u8 = 28;
 
 // How many hex digits a value has.
 const VALUE_DIGITS: u8 = 16;

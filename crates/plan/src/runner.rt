@@ -15,9 +15,9 @@ use format::Outcome;
 use sheet_reader::Front;
 
 // What comes back for a plan that is refused: malformed text, credentials that are not valid.
-const MALFORMED: u32 = 70;
+const MALFORMED: u8 = 70;
 
-const INVALID: u32 = 72;
+const INVALID: u8 = 72;
 
 // How many steps there are and what the last one leaves, or the first line of the steps that is at fault.
 pub enum StepsRun {
