@@ -70,10 +70,10 @@ module _ (s : List ℕ) (b : Bytes s) (at : ℕ) where
 
 -- ---- lists that are bytes
 
-no-bytes : Bytes []
+pub no-bytes : Bytes []
 no-bytes = record { small = λ at. omega arith }
 
-one-more : (x : ℕ) (s : List ℕ) → x < 256 → Bytes s → Bytes (x ∷ s)
+pub one-more : (x : ℕ) (s : List ℕ) → x < 256 → Bytes s → Bytes (x ∷ s)
 one-more x s h b = record { small = small-at }
   where
     small-at : (at : ℕ) → byteAt (x ∷ s) at < 256

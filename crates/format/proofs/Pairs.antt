@@ -9,9 +9,10 @@ use borrow.Author.Tests.{ltb-true, lt-ltb, ne-eqb}
 use lib.Dec.{ltb, eqb}
 use lib.ListN.{length}
 use Rattle.capabilities.proofs.Inclusion.{and-l, and-r}
+use Rattle.attribute.specs.Words.{Bytes}
+use Rattle.attribute.proofs.Words.{no-bytes, one-more}
 use Rattle.format.specs.Line.{keyedText, digit, hexText, read, hexDigit, newline}
 use Rattle.format.specs.Step.{pairsText, readPairs, readAttribute}
-use Rattle.format.specs.RoundTrip.{Bytes}
 use Rattle.format.proofs.Digits.{hex-digit-read, hex-digit-written, digit-no-newline}
 use Rattle.format.proofs.Reading.{fault-read, tested, tested-cases}
 use Rattle.format.proofs.WrittenRead.{key-read, line-then}
@@ -36,17 +37,20 @@ unfolding readPairs
 pair-read n c d front t h g =
     rw (ne-eqb (digit c) newline (digit-no-newline c), hex-digit-read c h, hex-digit-read d g, lt-ltb c 16 h, lt-ltb d 16 g)
 
+rest-bytes : (b : ℕ) (bs : List ℕ) → Bytes (b ∷ bs) → Bytes bs
+rest-bytes b bs h = record { small = λ at. h .small (suc at) }
+
 pairs-read : (n : ℕ) (front bs t : List ℕ) → Bytes bs → length bs ≤ n → readPairs n front (pairsText bs ++ (newline ∷ t)) ≡ read (front ++ bs) t
-unfolding pairsText Bytes
+unfolding pairsText
 pairs-read n front [] t h l = pairs-end n front t ∙ ap (λ (xs : List ℕ). read xs t) (sym (append-nil front))
 pairs-read zero front (b ∷ bs) t h l = absurd (not-suc-le-zero l)
 pairs-read (suc n) front (b ∷ bs) t h l =
-    let whole : b / 16 % 16 * 16 + b % 16 ≡ b = omega (arith, h .0) in
+    let whole : b / 16 % 16 * 16 + b % 16 ≡ b = omega (arith, h .small 0) in
     let after = pairsText bs ++ (newline ∷ t) in
     rw (append-assoc (hexText 2 b) (pairsText bs) (newline ∷ t), pair-text b)
     (pair-read n (b / 16 % 16) (b % 16) front after (omega arith) (omega arith)
     ∙ ap (λ (x : ℕ). readPairs n (front ++ (x ∷ [])) after) whole
-    ∙ pairs-read n (front ++ (b ∷ [])) bs t (h .1) (omega (arith, l))
+    ∙ pairs-read n (front ++ (b ∷ [])) bs t (rest-bytes b bs h) (omega (arith, l))
     ∙ ap (λ (xs : List ℕ). read xs t) (append-assoc front (b ∷ []) bs))
 
 -- a written attribute
@@ -73,15 +77,15 @@ record Told (n : ℕ) (front w t rest : List ℕ) : Type 0 where
   size : length got ≤ n
 
 told-end : (n b : ℕ) (front w t rest : List ℕ) → eqb b newline ≡ true → read front t ≡ read w rest → Told n front w (b ∷ t) rest
-unfolding pairsText Bytes
+unfolding pairsText
 told-end n b front w t rest q e =
     let p : front ≡ w = cc in
-    record { got = []; all = sym p ∙ sym (append-nil front); text = newline-told b front w t rest q e; small = tt; size = omega arith }
+    record { got = []; all = sym p ∙ sym (append-nil front); text = newline-told b front w t rest q e; small = no-bytes; size = omega arith }
 
 told-one : (n b c : ℕ) (front w t rest : List ℕ) → hexDigit b < 16 → hexDigit c < 16
     → Told n (front ++ ((hexDigit b * 16 + hexDigit c) ∷ [])) w t rest
     → Told (suc n) front w (b ∷ c ∷ t) rest
-unfolding pairsText Bytes
+unfolding pairsText
 told-one n b c front w t rest h g i =
     let x = hexDigit b * 16 + hexDigit c in
     record {
@@ -91,7 +95,7 @@ told-one n b c front w t rest h g i =
           ap (λ (xs : List ℕ). b ∷ c ∷ xs) (i .text)
           ∙ sym (ap (λ (xs : List ℕ). xs ++ (pairsText (i .got) ++ (newline ∷ rest))) (pair-written b c h g))
           ∙ sym (append-assoc (hexText 2 x) (pairsText (i .got)) (newline ∷ rest));
-      small = (omega arith, i .small);
+      small = one-more x (i .got) (omega arith) (i .small);
       size = omega (arith, i .size);
     }
 

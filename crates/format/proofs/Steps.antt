@@ -6,10 +6,11 @@ use native.Mathlib.Nat.{not-suc-le-zero}
 use native.Mathlib.Omega.{arith}
 use lib.ListN.{length, getD}
 use Rattle.rules.specs.Run.{Step}
+use Rattle.attribute.specs.Words.{Bytes}
 use Rattle.format.specs.Line.{linesText, read, mapped, readLines, afterKey}
 use Rattle.format.specs.Step.{stepKinds, attributeKey, attributeText, stepText, readAttribute, stepOf, readStep}
 use Rattle.format.specs.Plan.{stepsText, readSteps}
-use Rattle.format.specs.RoundTrip.{Bytes, Writable, AllWritable}
+use Rattle.format.specs.RoundTrip.{Writable, AllWritable}
 use Rattle.format.proofs.Reading.{fault-read, next-told, mapped-told}
 use Rattle.format.proofs.Fitting.{FitAll, placed, placed-same}
 use Rattle.format.proofs.WrittenRead.{lines-read}

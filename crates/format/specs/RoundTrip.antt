@@ -4,6 +4,7 @@ use mathlib.Core.Path.{_≡_}
 use mathlib.Core.Bool.{true}
 use mathlib.Core.List.{List, [], _∷_, _++_}
 use lib.ListN.{length}
+use Rattle.attribute.specs.Words.{Bytes}
 use Rattle.credentials.specs.Validity.{valid}
 use Rattle.credentials.specs.declared.Credentials.{Credentials}
 use Rattle.rules.specs.Run.{Step}
@@ -19,11 +20,6 @@ pub record SheetRoundTrip : Type 0 where
   pub written-read : (c : Credentials) → valid c ≡ true → readSheet (sheetText c) ≡ Sheet c
   -- a text that is read as credentials is the sheet written for them, and they are valid
   pub read-written : (text : List ℕ) (c : Credentials) → readSheet text ≡ Sheet c → (text ≡ sheetText c) × (valid c ≡ true)
-
--- every element is a byte
-unfoldable pub Bytes : List ℕ → Type 0
-Bytes [] = Unit
-Bytes (b ∷ bs) = (b < 256) × Bytes bs
 
 -- what a step can hold: a number up to 99, operands of 64 bits, at most 24 attribute bytes
 pub record Writable (s : Step) : Type 0 where
