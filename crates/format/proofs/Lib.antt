@@ -1,6 +1,8 @@
 pub mod Decimals
 pub mod Digits
 pub mod Fitting
+pub mod Lengths
+pub mod Longest
 pub mod Pairs
 pub mod Reading
 pub mod ReadWritten

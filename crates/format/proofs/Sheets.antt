@@ -42,7 +42,8 @@ flag-small false = omega arith
 values-read : (c : Credentials) → credentialsOf (sheetValues c) ≡ c
 values-read c = λ i. record { uids = c .uids; sets = c .sets; securebits = c .securebits; nnp = flag-read (c .nnp) i }
 
-values-fit : (c : Credentials) → WritableSheet c → FitAll sheetKinds (sheetValues c)
+-- the values of what a sheet can hold fit its lines
+pub values-fit : (c : Credentials) → WritableSheet c → FitAll sheetKinds (sheetValues c)
 unfolding FitAll idKinds setKinds flagKinds sheetKinds
 values-fit c w = omega (arith, w, flag-small (c .nnp))
 

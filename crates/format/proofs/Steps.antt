@@ -23,7 +23,8 @@ use Rattle.format.proofs.Pairs.{attribute-read, attribute-written}
 abbrev stepValues : Step → List ℕ
 stepValues s = s .number ∷ s .a ∷ s .b ∷ s .c ∷ []
 
-values-fit : (s : Step) → Writable s → FitAll stepKinds (stepValues s)
+-- the values of what a step can hold fit its lines
+pub values-fit : (s : Step) → Writable s → FitAll stepKinds (stepValues s)
 unfolding FitAll stepKinds
 values-fit s w = omega (arith, w .number, w .a, w .b, w .c)
 

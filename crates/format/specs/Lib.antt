@@ -4,4 +4,5 @@ pub mod Step
 pub mod Plan
 pub mod Report
 pub mod RoundTrip
+pub mod Longest
 pub mod Texts
