@@ -1,6 +1,6 @@
 -- How long the written texts of digits and lines are. Assumes nothing.
 use mathlib.Core.Path.{_≡_, refl, ap, _∙_}
-use mathlib.Core.List.{List, [], _∷_, _++_}
+use mathlib.Core.List.{List, [], _∷_}
 use mathlib.Core.Logic.{⊎-elim}
 use Prim.Native.Nat.{ℕ, zero, suc, _+_, _*_, _/_, _%_, _^_, _<_, _≤_}
 use native.Mathlib.Nat.{pow-suc, not-suc-le-zero}
@@ -8,6 +8,7 @@ use native.Mathlib.Numerals.{add-one}
 use native.Mathlib.Omega.{arith}
 use lib.ListN.{length, length-append}
 use Rattle.format.specs.Line.{Form, decimal, hex, Kind, digit, hexText, decimalText, valueText, keyedText, keyText, lineText, linesText}
+use Rattle.format.specs.Step.{pairsText}
 use Rattle.format.proofs.Decimals.{below-or-not, decimal-one, decimal-more}
 use Rattle.format.proofs.Fitting.{Fits, FitAll}
 
@@ -92,3 +93,13 @@ length-lines [] vs h = omega arith
 length-lines (k ∷ ks) [] h = absurd h
 length-lines (k ∷ ks) (v ∷ vs) h =
     omega (arith, length-append (lineText k v) (linesText ks vs), length-line (keyText k) (k .form) v (h .0), length-lines ks vs (h .1))
+
+-- the digits of an attribute
+length-pairs : (bs : List ℕ) → length (pairsText bs) ≡ 2 * length bs
+unfolding pairsText
+length-pairs [] = refl
+length-pairs (b ∷ bs) = omega (arith, length-append (hexText 2 b) (pairsText bs), length-hex 2 b, length-pairs bs)
+
+-- an attribute's line
+pub length-attribute : (key bs : List ℕ) → length bs ≤ 24 → length (keyedText key (pairsText bs)) ≤ length key + 49
+length-attribute key bs h = omega (arith, length-keyed key (pairsText bs), length-pairs bs)

@@ -1,6 +1,8 @@
+pub mod Alike
 pub mod Decimals
 pub mod Digits
 pub mod Fitting
+pub mod InLine
 pub mod Lengths
 pub mod Longest
 pub mod Pairs

@@ -1,10 +1,12 @@
 -- How long sheets, steps, plans and reports are at most, and that reading a plan needs no more than one byte past that. Assumes nothing.
-use mathlib.Core.Path.{_≡_, refl, ap}
+use mathlib.Core.Path.{_≡_, refl, ap, _∙_}
+use mathlib.Core.Logic.{⊎-elim}
 use mathlib.Core.Bool.{Bool, true, false, cond}
 use mathlib.Core.List.{List, [], _∷_, _++_}
-use Prim.Native.Nat.{ℕ, zero, suc, _+_, _*_, _≤_}
+use Prim.Native.Nat.{ℕ, zero, suc, _+_, _*_, _<_, _≤_}
 use native.Mathlib.Omega.{arith}
-use lib.ListN.{length, length-append}
+use lib.ListN.{length, take, drop, length-append, take-append-drop}
+use lib.Seq.{length-take-le, take-all}
 use Rattle.credentials.specs.Validity.{valid}
 use Rattle.credentials.specs.declared.Credentials.{Credentials}
 use Rattle.rules.specs.declared.Answer.{Answer}
@@ -13,23 +15,28 @@ use Rattle.rules.specs.Answers.{code}
 use Rattle.rules.specs.Call.{answer}
 use Rattle.rules.specs.Run.{Step, Result, result, run, left}
 use Rattle.rules.proofs.Demand3.{demand-3}
-use Rattle.format.specs.Line.{bytes, hexText, decimalText, keyedText, linesText, Read, read, faultAt}
-use Rattle.format.specs.Sheet.{idKinds, setKinds, flagKinds, sheetKinds, sheetValues, sheetText}
-use Rattle.format.specs.Step.{stepKinds, attributeKey, pairsText, attributeText, stepText}
-use Rattle.format.specs.Plan.{Plan, stepsText, planText, readPlan}
-use Rattle.format.specs.Report.{resultKinds, resultText, resultsText, reportText, report, invalid, judged, verdict}
+use Rattle.format.specs.Line.{bytes, hexText, decimalText, keyedText, linesText, Read, read, faultAt, mapped, readLines}
+use Rattle.format.specs.Sheet.{idKinds, setKinds, flagKinds, sheetKinds, sheetValues, sheetText, credentialsOf, readFront}
+use Rattle.format.specs.Step.{stepKinds, attributeKey, attributeText, stepText, readAttribute, stepOf, readStep}
+use Rattle.format.specs.Plan.{Plan, stepsText, planText, MOST-STEPS, readSteps, readPlan}
+use Rattle.format.specs.Report.{resultKinds, resultText, resultsText, reportText, report, malformed, invalid, judged, verdict}
 use Rattle.format.specs.RoundTrip.{Writable, WritableSheet, AllWritable}
-use Rattle.format.proofs.Lengths.{length-hex, length-one, at-most, length-keyed, mostLines, length-lines}
+use Rattle.format.specs.Longest.{Longest}
+use Rattle.format.proofs.Alike.{Alike, mapped-alike, next-alike, lines-alike, attribute-alike}
+use Rattle.format.proofs.Decimals.{below-or-not}
+use Rattle.format.proofs.Lengths.{length-hex, length-one, at-most, length-keyed, mostLines, length-lines, length-attribute}
 use Rattle.format.proofs.Sheets as Sheets
 use Rattle.format.proofs.Steps as Steps
 use Rattle.format.proofs.RoundTrip.{plan-round-trip}
 
--- ---- written texts
+-- ---- sheets, steps and plans
 
+-- 179 bytes without the digits of the IDs, and four times 10 digits
 most-sheet : mostLines sheetKinds ≤ 219
 unfolding mostLines idKinds setKinds flagKinds sheetKinds
 most-sheet = omega (arith, at-most 9 4294967295 (omega arith), length-one 1 (omega arith))
 
+-- a call's line of 8 bytes and three operands' of 19
 most-step : mostLines stepKinds ≤ 65
 unfolding mostLines stepKinds
 most-step = omega (arith, at-most 1 99 (omega arith))
@@ -38,14 +45,7 @@ length-sheet : (c : Credentials) → WritableSheet c → length (sheetText c) �
 unfolding sheetText
 length-sheet c w = omega (arith, length-lines sheetKinds (sheetValues c) (Sheets.values-fit c w), most-sheet)
 
-length-pairs : (bs : List ℕ) → length (pairsText bs) ≡ 2 * length bs
-unfolding pairsText
-length-pairs [] = refl
-length-pairs (b ∷ bs) = omega (arith, length-append (hexText 2 b) (pairsText bs), length-hex 2 b, length-pairs bs)
-
-length-attribute : (bs : List ℕ) → length bs ≤ 24 → length (attributeText bs) ≤ 54
-length-attribute bs h = omega (arith, length-keyed attributeKey (pairsText bs), length-pairs bs)
-
+-- with an attribute's line of 54
 length-step : (s : Step) → Writable s → length (stepText s) ≤ 119
 unfolding stepText
 length-step s w =
@@ -55,7 +55,7 @@ length-step s w =
       length-append (linesText stepKinds vs) (attributeText (s .attribute)),
       length-lines stepKinds vs (Steps.values-fit s w),
       most-step,
-      length-attribute (s .attribute) (w .size),
+      length-attribute attributeKey (s .attribute) (w .size),
     )
 
 length-steps : (ss : List Step) → AllWritable ss → length (stepsText ss) ≤ length ss * 119
@@ -63,9 +63,9 @@ unfolding stepsText AllWritable
 length-steps [] w = omega arith
 length-steps (s ∷ ss) w = omega (arith, length-append (stepText s) (stepsText ss), length-step s (w .0), length-steps ss (w .1))
 
-plan : (text : List ℕ) (p : Plan) (rest : List ℕ) → readPlan text ≡ read p rest → length text ≤ 30683
+length-plan : (text : List ℕ) (p : Plan) (rest : List ℕ) → readPlan text ≡ read p rest → length text ≤ 30683
 unfolding planText
-plan text p rest e =
+length-plan text p rest e =
     let r = plan-round-trip .read-written text p rest e in
     let w = r .2 in
     omega (
@@ -90,6 +90,7 @@ result-small : (start : Credentials) (x : Step) → result start x .code ≤ 99
 unfolding result
 result-small start x = code-small (answer start (x .number) (x .a) (x .b) (x .c) (x .attribute))
 
+-- a code's line of 8 bytes and a value's of 23
 length-result : (r : Result) → r .code ≤ 99 → length (resultText r) ≤ 31
 unfolding resultText resultKinds linesText
 length-result r h =
@@ -119,6 +120,7 @@ length-results start (x ∷ xs) =
       length-results (r .after) xs,
     )
 
+-- and the sheet of the last state, which is valid
 length-report : (p : Plan) → valid (p .start) ≡ true → length (p .steps) ≤ 256 → length (reportText p) ≤ 8155
 unfolding reportText
 length-report p v n =
@@ -130,16 +132,84 @@ length-report p v n =
       length-sheet last (Sheets.valid-writable last (demand-3 (p .start) v (p .steps) .ends-valid)),
     )
 
-reported : (p : Plan) (t : List ℕ) (b : Bool) → valid (p .start) ≡ b → length (p .steps) ≤ 256 → cond b (report (reportText p)) invalid ≡ report t
+length-reported : (p : Plan) (t : List ℕ) (b : Bool) → valid (p .start) ≡ b → length (p .steps) ≤ 256 → cond b (report (reportText p)) invalid ≡ report t
     → length t ≤ 8155
-reported p t true v n e = let q : reportText p ≡ t = cc in omega (arith, ap length q, length-report p v n)
-reported p t false v n e = let z : _≡_ {A = ℕ} 0 1 = cc in absurd (omega arith)
+length-reported p t true v n e = let q : reportText p ≡ t = cc in omega (arith, ap length q, length-report p v n)
+length-reported p t false v n e = let z : _≡_ {A = ℕ} 0 1 = cc in absurd (omega arith)
 
-judged-short : (text t : List ℕ) (r : Read Plan) → readPlan text ≡ r → judged r ≡ report t → length t ≤ 8155
-judged-short text t (read p rest) q e =
-    reported p t (valid (p .start)) refl (plan-round-trip .read-written text p rest q .2 .count) e
-judged-short text t (faultAt line) q e = let z : _≡_ {A = ℕ} 0 1 = cc in absurd (omega arith)
+length-judged : (text t : List ℕ) (r : Read Plan) → readPlan text ≡ r → judged r ≡ report t → length t ≤ 8155
+length-judged text t (read p rest) q e =
+    length-reported p t (valid (p .start)) refl (plan-round-trip .read-written text p rest q .2 .count) e
+length-judged text t (faultAt line) q e = let z : _≡_ {A = ℕ} 0 1 = cc in absurd (omega arith)
 
-short : (text t : List ℕ) → verdict text ≡ report t → length t ≤ 8155
+length-verdict : (text t : List ℕ) → verdict text ≡ report t → length t ≤ 8155
 unfolding verdict
-short text t e = judged-short text t (readPlan text) refl e
+length-verdict text t e = length-judged text t (readPlan text) refl e
+
+-- ---- a text that is cut
+
+-- a text that is longer than a step by so many bytes
+step-alike : (u more : List ℕ) (left : ℕ) → 119 + left ≤ length u → Alike more left (readStep u) (readStep (u ++ more))
+unfolding readStep
+step-alike u more left h =
+    next-alike more left (length stepKinds) (54 + left) (readLines stepKinds u) (readLines stepKinds (u ++ more))
+    (λ vs t. mapped (stepOf vs) (readAttribute attributeKey t))
+    (lines-alike stepKinds u more (54 + left) (omega (arith, most-step)))
+    (λ vs t g.
+    mapped-alike more left (stepOf vs) (readAttribute attributeKey t) (readAttribute attributeKey (t ++ more))
+    (attribute-alike attributeKey t more left g))
+
+-- one byte more than n steps have
+steps-alike : (n : ℕ) (u more : List ℕ) → n * 119 + 1 ≤ length u → Alike more 0 (readSteps n u) (readSteps n (u ++ more))
+unfolding readSteps
+steps-alike zero [] more h = absurd (omega (arith, h))
+steps-alike zero (b ∷ t) more h = refl
+steps-alike (suc n) [] more h = absurd (omega (arith, h))
+steps-alike (suc n) (b ∷ t) more h =
+    next-alike more 0 (length stepKinds + 1) (n * 119 + 1) (readStep (b ∷ t)) (readStep (b ∷ (t ++ more)))
+    (λ s r. mapped (λ ss. s ∷ ss) (readSteps n r))
+    (step-alike (b ∷ t) more (n * 119 + 1) (omega (arith, h)))
+    (λ s r g. mapped-alike more 0 (λ ss. s ∷ ss) (readSteps n r) (readSteps n (r ++ more)) (steps-alike n r more g))
+
+-- one byte more than a plan has
+plan-alike : (u more : List ℕ) → 30684 ≤ length u → Alike more 0 (readPlan u) (readPlan (u ++ more))
+unfolding readPlan readFront
+plan-alike u more h =
+    next-alike more 0 (length sheetKinds) 30465 (readFront u) (readFront (u ++ more))
+    (λ c r. mapped (λ ss. record { start = c; steps = ss }) (readSteps MOST-STEPS r))
+    (mapped-alike more 30465 credentialsOf (readLines sheetKinds u) (readLines sheetKinds (u ++ more))
+    (lines-alike sheetKinds u more 30465 (omega (arith, most-sheet))))
+    (λ c r g.
+    mapped-alike more 0 (λ ss. record { start = c; steps = ss }) (readSteps MOST-STEPS r) (readSteps MOST-STEPS (r ++ more))
+    (steps-alike MOST-STEPS r more (omega (arith, g))))
+
+-- what comes of a plan does not depend on the text left over
+judged-alike : (more : List ℕ) (r s : Read Plan) → Alike more 0 r s → judged r ≡ judged s
+judged-alike more (read p t) (read q u) h = ap (λ (x : Plan). judged (read x t)) (h .0)
+judged-alike more (read p t) (faultAt line) h = absurd h
+judged-alike more (faultAt line) (read q u) h = absurd h
+judged-alike more (faultAt line) (faultAt other) h = ap malformed h
+
+-- a text that is cut where that byte ends
+cut : (text : List ℕ) → verdict (take 30684 text) ≡ verdict text
+unfolding verdict
+cut text =
+    ⊎-elim
+    (λ (l : length text < 30684). ap verdict (take-all 30684 text (omega (arith, l))))
+    (λ (l : 30684 ≤ length text).
+    let u = take 30684 text in
+    let more = drop 30684 text in
+    judged-alike more (readPlan u) (readPlan (u ++ more)) (plan-alike u more (omega (arith, length-take-le 30684 text l)))
+    ∙ ap verdict (take-append-drop 30684 text))
+    (below-or-not (length text) 30684)
+
+-- ---- the statement
+
+-- how long plans and reports can be
+pub longest : Longest
+longest =
+    record {
+      plan = λ text p rest e. omega (arith, length-plan text p rest e);
+      cut = cut;
+      report = λ text t e. omega (arith, length-verdict text t e);
+    }

@@ -1,16 +1,16 @@
 -- Laws of a run of stores, and of the texts that the writers write. Assumes nothing.
 use mathlib.Core.Path.{_≡_, refl, sym, ap, _∙_}
 use mathlib.Core.List.{List, [], _∷_, _++_}
-use mathlib.Core.Logic.{⊎-elim}
-use Prim.Native.Nat.{ℕ, zero, suc, _+_, _-_, _*_, _/_, _%_, _^_, _<_, _≤_}
-use native.Mathlib.Nat.{add-zero, add-suc, suc-add, pow-suc}
+use Prim.Native.Nat.{ℕ, suc, _+_, _/_, _%_, _^_, _<_, _≤_}
+use native.Mathlib.Nat.{add-zero, add-suc, suc-add}
 use native.Mathlib.Numerals.{add-one}
 use native.Mathlib.Omega.{arith}
 use borrow.Author.Tests.{le-leb, lt-leb}
 use lib.ListN.{length, getD, set, drop, length-append, drop-of-length-le}
 use lib.Seq.{sets, set-comm, drop-cons, length-sets}
 use Rattle.format.specs.Line.{bytes, digit, hexText, decimalText, keyedText}
-use Rattle.format.proofs.Decimals.{below-or-not, decimal-one, decimal-more}
+use Rattle.format.proofs.Decimals.{decimal-one, decimal-more}
+use Rattle.format.proofs.Lengths.{length-hex, length-more, at-most, length-keyed}
 use Rattle.line_writer.specs.Positions.{written, writtenTo}
 
 pub sets-append : (xs ys l : List ℕ) (i : ℕ) → sets l i (xs ++ ys) ≡ sets (sets l i xs) (i + length xs) ys
@@ -35,11 +35,6 @@ put-no-byte src l k i h = rw (drop-of-length-le src h)
 
 -- ---- hex digits
 
-pub length-hex : (n v : ℕ) → length (hexText n v) ≡ n
-unfolding hexText
-length-hex zero v = refl
-length-hex (suc n) v = simp (length-append, length-hex n (v / 16), add-one)
-
 pub put-hex-digit : (n m v : ℕ) (l : List ℕ) (i : ℕ) → n ≡ m + 1
     → sets l i (hexText n v) ≡ sets (set l (i + m) (digit (v % 16))) i (hexText m (v / 16))
 unfolding hexText
@@ -50,25 +45,6 @@ unfolding hexText
 put-no-hex m v l i h = rw h
 
 -- ---- decimal digits
-
-pub length-more : (v : ℕ) → 10 ≤ v → length (decimalText v) ≡ length (decimalText (v / 10)) + 1
-length-more v h = ap length (decimal-more v h) ∙ length-append (decimalText (v / 10)) (digit (v % 10) ∷ [])
-
-pub length-one : (v : ℕ) → v < 10 → length (decimalText v) ≡ 1
-length-one v h = ap length (decimal-one v h)
-
-pub length-some : (v : ℕ) → 1 ≤ length (decimalText v)
-length-some v =
-    ⊎-elim (λ (l : v < 10). omega (arith, length-one v l)) (λ (l : 10 ≤ v). omega (arith, length-more v l)) (below-or-not v 10)
-
-at-most : (n v : ℕ) → v < 10 ^ suc n → length (decimalText v) ≤ suc n
-at-most zero v h = omega (arith, length-one v h)
-at-most (suc n) v h =
-    let q : v < 10 ^ suc n * 10 = rw pow-suc at h in
-    ⊎-elim
-    (λ (l : v < 10). omega (arith, length-one v l))
-    (λ (l : 10 ≤ v). omega (arith, length-more v l, at-most n (v / 10) (omega arith)))
-    (below-or-not v 10)
 
 -- a number of 64 bits has at most 20 digits
 pub length-64 : (v : ℕ) → v < 2 ^ 64 → length (decimalText v) ≤ 20
@@ -88,10 +64,6 @@ pub put-first-digit : (v : ℕ) (l : List ℕ) (i : ℕ) → v < 10 → sets l i
 put-first-digit v l i h = rw (decimal-one v h)
 
 -- ---- a line
-
-pub length-keyed : (key value : List ℕ) → length (keyedText key value) ≡ length key + length value + 1
-unfolding keyedText
-length-keyed key value = simp (length-append) (omega arith)
 
 put-keyed : (key value l : List ℕ) (at p q : ℕ) → p ≡ at + length key → q ≡ p + length value
     → set (sets (sets l at key) p value) q 10 ≡ sets l at (keyedText key value)

@@ -17,9 +17,10 @@ use Rattle.format.specs.Sheet.{idKinds, setKinds, flagKinds, sheetKinds, sheetT
 use Rattle.format.specs.Plan.{readSteps, readPlan}
 use Rattle.format.specs.Report.{resultKinds, resultText, resultsText, reportText, report, malformed, invalid, verdict, outcome, buffer}
 use Rattle.format.specs.declared.Outcome.{Outcome}
+use Rattle.format.proofs.Lengths.{length-hex, length-keyed}
 use Rattle.format.proofs.Reading.{mapped-told}
 use Rattle.line_writer.specs.Positions.{written}
-use Rattle.line_writer.proofs.LineLaws.{sets-append, length-hex, length-keyed}
+use Rattle.line_writer.proofs.LineLaws.{sets-append}
 use Rattle.plan.specs.Inside.{Ran, codesOf, valuesOf, ranOf, ranSteps, answersText}
 
 -- ---- a result's two lines

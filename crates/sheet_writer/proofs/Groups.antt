@@ -14,7 +14,8 @@ use Rattle.credentials.specs.declared.Credentials.{Credentials}
 use Rattle.rules.specs.Fields.{number}
 use Rattle.format.specs.Line.{bytes, Kind, hexText, decimalText, keyedText, lineText, linesText}
 use Rattle.format.specs.Sheet.{idKinds, setKinds, flagKinds, sheetKinds, sheetText, idValues, setValues, flagValues}
-use Rattle.line_writer.proofs.LineLaws.{sets-append, length-hex, length-keyed, length-one}
+use Rattle.format.proofs.Lengths.{length-hex, length-one, length-keyed}
+use Rattle.line_writer.proofs.LineLaws.{sets-append}
 use Rattle.line_writer.specs.Positions.{written, writtenTo}
 
 text-grouped : (ks ls : List Kind) (vs ws : List ℕ) → length ks ≡ length vs → linesText (ks ++ ls) (vs ++ ws) ≡ linesText ks vs ++ linesText ls ws

@@ -5,7 +5,8 @@ use native.Mathlib.Omega.{arith}
 use borrow.Author.Needs.{needs}
 use lib.ListN.{length}
 use Rattle.format.specs.Line.{decimalText}
-use Rattle.line_writer.proofs.LineLaws.{length-64, length-some, length-more, length-one}
+use Rattle.format.proofs.Lengths.{length-more, length-one, length-some}
+use Rattle.line_writer.proofs.LineLaws.{length-64}
 use Rattle.line_writer.proofs.lines.decimal_length.Statement.{statement}
 use Rattle.line_writer.proofs.lines.decimal_length.Tie as tie
 

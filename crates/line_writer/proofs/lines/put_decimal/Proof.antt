@@ -6,7 +6,8 @@ use borrow.Author.Needs.{needs}
 use lib.ListN.{length, length-set}
 use lib.Seq.{sets}
 use Rattle.format.specs.Line.{decimalText}
-use Rattle.line_writer.proofs.LineLaws.{length-some, length-more, put-decimal-digit, put-first-digit}
+use Rattle.format.proofs.Lengths.{length-more, length-some}
+use Rattle.line_writer.proofs.LineLaws.{put-decimal-digit, put-first-digit}
 use Rattle.line_writer.proofs.lines.put_decimal.Statement.{statement}
 use Rattle.line_writer.proofs.lines.put_decimal.Tie as tie
 

@@ -3,7 +3,8 @@ use mathlib.Core.Path.{_∙_}
 use native.Mathlib.Omega.{arith}
 use lib.ListN.{length-set}
 use Rattle.format.specs.Line.{hexText}
-use Rattle.line_writer.proofs.LineLaws.{length-hex, keyed-refused, keyed-written}
+use Rattle.format.proofs.Lengths.{length-hex}
+use Rattle.line_writer.proofs.LineLaws.{keyed-refused, keyed-written}
 use borrow.Author.Needs.{needs}
 use Rattle.line_writer.proofs.lines.write_hex.Statement.{statement}
 use Rattle.line_writer.proofs.lines.write_hex.Tie as tie
