@@ -53,7 +53,7 @@ no-longer (suc n) v m h g =
     (below-or-not v 10)
 
 -- a larger number has no fewer
-pub length-up-to : (v m : ℕ) → v ≤ m → length (decimalText v) ≤ length (decimalText m)
+length-up-to : (v m : ℕ) → v ≤ m → length (decimalText v) ≤ length (decimalText m)
 length-up-to v m h = no-longer (suc v) v m (omega arith) h
 
 -- ---- lines
@@ -73,7 +73,7 @@ mostLines [] = 0
 mostLines (k ∷ ks) = mostKeyed (keyText k) (k .form) + mostLines ks
 
 -- a value
-pub length-value : (form : Form) (v : ℕ) → Fits form v → length (valueText form v) ≤ mostDigits form
+length-value : (form : Form) (v : ℕ) → Fits form v → length (valueText form v) ≤ mostDigits form
 length-value (decimal largest) v h = length-up-to v largest h
 length-value (hex n) v h = omega (arith, length-hex n v)
 

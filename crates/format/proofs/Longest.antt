@@ -15,7 +15,7 @@ use Rattle.rules.specs.Answers.{code}
 use Rattle.rules.specs.Call.{answer}
 use Rattle.rules.specs.Run.{Step, Result, result, run, left}
 use Rattle.rules.proofs.Demand3.{demand-3}
-use Rattle.format.specs.Line.{bytes, hexText, decimalText, keyedText, linesText, Read, read, faultAt, mapped, readLines}
+use Rattle.format.specs.Line.{bytes, hexText, decimalText, keyedText, linesText, Read, read, faultAt, readLines}
 use Rattle.format.specs.Sheet.{idKinds, setKinds, flagKinds, sheetKinds, sheetValues, sheetText, credentialsOf, readFront}
 use Rattle.format.specs.Step.{stepKinds, attributeKey, attributeText, stepText, readAttribute, stepOf, readStep}
 use Rattle.format.specs.Plan.{Plan, stepsText, planText, MOST-STEPS, readSteps, readPlan}
@@ -152,8 +152,7 @@ length-verdict text t e = length-judged text t (readPlan text) refl e
 step-alike : (u more : List ℕ) (left : ℕ) → 119 + left ≤ length u → Alike more left (readStep u) (readStep (u ++ more))
 unfolding readStep
 step-alike u more left h =
-    next-alike more left (length stepKinds) (54 + left) (readLines stepKinds u) (readLines stepKinds (u ++ more))
-    (λ vs t. mapped (stepOf vs) (readAttribute attributeKey t))
+    next-alike more left _ (54 + left) (readLines stepKinds u) (readLines stepKinds (u ++ more)) _
     (lines-alike stepKinds u more (54 + left) (omega (arith, most-step)))
     (λ vs t g.
     mapped-alike more left (stepOf vs) (readAttribute attributeKey t) (readAttribute attributeKey (t ++ more))
@@ -166,8 +165,7 @@ steps-alike zero [] more h = absurd (omega (arith, h))
 steps-alike zero (b ∷ t) more h = refl
 steps-alike (suc n) [] more h = absurd (omega (arith, h))
 steps-alike (suc n) (b ∷ t) more h =
-    next-alike more 0 (length stepKinds + 1) (n * 119 + 1) (readStep (b ∷ t)) (readStep (b ∷ (t ++ more)))
-    (λ s r. mapped (λ ss. s ∷ ss) (readSteps n r))
+    next-alike more 0 _ (n * 119 + 1) (readStep (b ∷ t)) (readStep (b ∷ (t ++ more))) _
     (step-alike (b ∷ t) more (n * 119 + 1) (omega (arith, h)))
     (λ s r g. mapped-alike more 0 (λ ss. s ∷ ss) (readSteps n r) (readSteps n (r ++ more)) (steps-alike n r more g))
 
@@ -175,8 +173,7 @@ steps-alike (suc n) (b ∷ t) more h =
 plan-alike : (u more : List ℕ) → 30684 ≤ length u → Alike more 0 (readPlan u) (readPlan (u ++ more))
 unfolding readPlan readFront
 plan-alike u more h =
-    next-alike more 0 (length sheetKinds) 30465 (readFront u) (readFront (u ++ more))
-    (λ c r. mapped (λ ss. record { start = c; steps = ss }) (readSteps MOST-STEPS r))
+    next-alike more 0 _ 30465 (readFront u) (readFront (u ++ more)) _
     (mapped-alike more 30465 credentialsOf (readLines sheetKinds u) (readLines sheetKinds (u ++ more))
     (lines-alike sheetKinds u more 30465 (omega (arith, most-sheet))))
     (λ c r g.
