@@ -1,4 +1,5 @@
 pub mod Alike
+pub mod Computed
 pub mod Decimals
 pub mod Digits
 pub mod Fitting
@@ -6,10 +7,9 @@ pub mod InLine
 pub mod Lengths
 pub mod Longest
 pub mod Pairs
-pub mod Reading
 pub mod ReadWritten
+pub mod Reading
 pub mod RoundTrip
 pub mod Sheets
 pub mod Steps
-pub mod Texts
 pub mod WrittenRead

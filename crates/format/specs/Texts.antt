@@ -1,4 +1,4 @@
--- Whole texts and what they come to: the paper's report of case 2, faults with their lines, answers and buffers. proofs/Texts.antt proves the
+-- Whole texts and what they come to: the paper's report of case 2, faults with their lines, answers and buffers. proofs/Computed.antt proves the
 -- statement at the end by computing both sides. Assumes nothing.
 use Prim.Native.Nat.{ℕ, zero, suc}
 use mathlib.Core.Path.{_≡_}
