@@ -54,11 +54,12 @@ fn hex_at(text: &[u8], at: usize, n: usize) -> Digits
     Digits::Make(v)
 }
 
-// The line of key and 16 hex digits at the position at of text.
-pub fn read_hex16(text: &[u8], at: usize, key: &[u8]) -> Line
-    ensures { λ r. ⌜ r ≡ lineAt (now (key .entry)) (hex 16) (now (text .entry)) at ⌝ }
+// The line of key and n hex digits at the position at of text.
+fn hex_line(text: &[u8], at: usize, key: &[u8], n: usize) -> Line
+    requires { ⌜ n ≤ 16 ⌝ }
+    ensures { λ r. ⌜ r ≡ lineAt (now (key .entry)) (hex n) (now (text .entry)) at ⌝ }
 {
-    let size = key.len() + 17;
+    let size = key.len() + n + 1;
     let len = text.len();
     if len < size {
         return Line::Fault;
@@ -68,8 +69,8 @@ pub fn read_hex16(text: &[u8], at: usize, key: &[u8]) -> Line
     }
     if starts_with(text, at, key) {
         let p = at + key.len();
-        let q = p + 16;
-        let Digits::Make(v) = hex_at(text, p, 16) else {
+        let q = p + n;
+        let Digits::Make(v) = hex_at(text, p, n) else {
             return Line::Fault;
         };
         if text[q] == NEWLINE {
@@ -79,29 +80,18 @@ pub fn read_hex16(text: &[u8], at: usize, key: &[u8]) -> Line
     Line::Fault
 }
 
+// The line of key and 16 hex digits at the position at of text.
+pub fn read_hex16(text: &[u8], at: usize, key: &[u8]) -> Line
+    ensures { λ r. ⌜ r ≡ lineAt (now (key .entry)) (hex 16) (now (text .entry)) at ⌝ }
+{
+    hex_line(text, at, key, 16)
+}
+
 // The line of key and 2 hex digits at the position at of text.
 pub fn read_hex2(text: &[u8], at: usize, key: &[u8]) -> Line
     ensures { λ r. ⌜ r ≡ lineAt (now (key .entry)) (hex 2) (now (text .entry)) at ⌝ }
 {
-    let size = key.len() + 3;
-    let len = text.len();
-    if len < size {
-        return Line::Fault;
-    }
-    if len - size < at {
-        return Line::Fault;
-    }
-    if starts_with(text, at, key) {
-        let p = at + key.len();
-        let q = p + 2;
-        let Digits::Make(v) = hex_at(text, p, 2) else {
-            return Line::Fault;
-        };
-        if text[q] == NEWLINE {
-            return Line::Is(v, q + 1);
-        }
-    }
-    Line::Fault
+    hex_line(text, at, key, 2)
 }
 
 // The digits after first, and the newline.
