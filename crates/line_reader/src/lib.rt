@@ -14,7 +14,7 @@ pub use lines::read_hex16;
 const NEWLINE: u8 = 10;
 
 // The most bytes of an attribute's line.
-pub const MOST_ATTRIBUTE: usize = 24;
+const MOST_ATTRIBUTE: usize = 24;
 
 // A line's value and the position past the line, or that there is no such line.
 pub enum Line {

@@ -50,10 +50,6 @@ put-no-hex m v l i h = rw h
 pub length-64 : (v : ℕ) → v < 2 ^ 64 → length (decimalText v) ≤ 20
 length-64 v h = at-most 19 v (omega arith)
 
--- and one of 32 bits at most 10
-pub length-32 : (v : ℕ) → v < 2 ^ 32 → length (decimalText v) ≤ 10
-length-32 v h = at-most 9 v (omega arith)
-
 pub put-decimal-digit : (v m : ℕ) (l : List ℕ) (i : ℕ) → 10 ≤ v → length (decimalText v) ≡ m + 1
     → sets l i (decimalText v) ≡ sets (set l (i + m) (digit (v % 10))) i (decimalText (v / 10))
 put-decimal-digit v m l i h e =

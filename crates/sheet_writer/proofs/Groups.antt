@@ -33,9 +33,6 @@ sheet-text c =
     text-grouped idKinds (setKinds ++ flagKinds) (idValues (c .uids)) (setValues (c .sets) ++ flagValues (c .securebits) (c .nnp)) refl
     ∙ ap (λ (t : List ℕ). linesText idKinds (idValues (c .uids)) ++ t) (text-grouped setKinds flagKinds (setValues (c .sets)) (flagValues (c .securebits) (c .nnp)) refl)
 
-abbrev decimalLine : List ℕ → ℕ → List ℕ
-decimalLine key v = keyedText key (decimalText v)
-
 pub ids-text : (u : Ids) → linesText idKinds (idValues u)
     ≡ ((keyedText (bytes "ruid=") (decimalText (u .real)) ++ keyedText (bytes "euid=") (decimalText (u .effective))) ++ keyedText (bytes "suid=") (decimalText (u .saved))) ++ keyedText (bytes "fsuid=") (decimalText (u .filesystem))
 unfolding linesText idKinds
