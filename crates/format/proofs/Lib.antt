@@ -3,7 +3,6 @@ pub mod Computed
 pub mod Decimals
 pub mod Digits
 pub mod Fitting
-pub mod InLine
 pub mod Lengths
 pub mod Longest
 pub mod Pairs

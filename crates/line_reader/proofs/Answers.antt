@@ -10,7 +10,7 @@ use Rattle.format.specs.Line.{Form, valueText, keyedText, Read, read, faultAt, 
 use Rattle.format.specs.Step.{pairsText, readPairs, readAttribute}
 use Rattle.format.proofs.ReadWritten.{keyed-written}
 use Rattle.format.proofs.Pairs.{attribute-written}
-use Rattle.format.proofs.InLine.{inLine, value-in-line, pairs-in-line, key-in-line}
+use Rattle.format.proofs.Alike.{inLine, value-in-line, pairs-in-line, key-in-line}
 use Rattle.line_reader.specs.declared.Line.the-variants.{Is, Fault}
 use Rattle.line_reader.specs.declared.Attribute.{Attribute}
 use Rattle.line_reader.specs.Positions.{placed, lineAt, placedAttribute, attributeAt}
