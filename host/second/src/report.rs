@@ -1,0 +1,27 @@
+//! Writes a report: two lines for each step, then the sheet.
+
+use std::fmt::{self, Write};
+
+use crate::calls::Answer;
+use crate::credentials::Credentials;
+
+/// Adds a step's code and value.
+pub(crate) fn write_answer(report: &mut String, answer: &Answer) -> fmt::Result {
+    writeln!(report, "code={}", answer.code)?;
+    writeln!(report, "value={:016x}", answer.value)
+}
+
+/// Adds the eleven lines of a sheet.
+pub(crate) fn write_sheet(report: &mut String, credentials: &Credentials) -> fmt::Result {
+    writeln!(report, "ruid={}", credentials.ruid)?;
+    writeln!(report, "euid={}", credentials.euid)?;
+    writeln!(report, "suid={}", credentials.suid)?;
+    writeln!(report, "fsuid={}", credentials.fsuid)?;
+    writeln!(report, "permitted={:016x}", credentials.permitted)?;
+    writeln!(report, "inheritable={:016x}", credentials.inheritable)?;
+    writeln!(report, "effective={:016x}", credentials.effective)?;
+    writeln!(report, "bounding={:016x}", credentials.bounding)?;
+    writeln!(report, "ambient={:016x}", credentials.ambient)?;
+    writeln!(report, "securebits={:02x}", credentials.securebits)?;
+    writeln!(report, "nnp={}", u8::from(credentials.nnp))
+}

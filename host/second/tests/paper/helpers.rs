@@ -1,0 +1,163 @@
+//! Starts, steps and texts that the tests share.
+
+use second::{perform, run_plan, Answer, Credentials, Outcome, Step};
+
+pub const FULL: u64 = 0x0000_01ff_ffff_ffff;
+
+pub const SETUID: u64 = 1 << 7;
+pub const SETPCAP: u64 = 1 << 8;
+pub const NET_BIND_SERVICE: u64 = 1 << 10;
+pub const NET_ADMIN: u64 = 1 << 12;
+pub const NET_RAW: u64 = 1 << 13;
+pub const SYS_RAWIO: u64 = 1 << 17;
+
+pub const NOROOT: u8 = 0x01;
+pub const NO_SETUID_FIXUP: u8 = 0x04;
+pub const KEEP_CAPS: u8 = 0x10;
+pub const KEEP_CAPS_LOCKED: u8 = 0x20;
+pub const NO_CAP_AMBIENT_RAISE: u8 = 0x40;
+
+pub const SET_USER_ID: u64 = 1;
+pub const SET_GROUP_ID: u64 = 2;
+pub const NOSUID: u64 = 4;
+pub const TRACED: u64 = 8;
+pub const NO_FILE_CAPS: u64 = 16;
+
+/// The operand that leaves an ID.
+pub const LEAVE: u64 = 4_294_967_295;
+
+/// The quoted attribute: NET_RAW permitted, bit on.
+pub const QUOTED: &str = "0100000200200000000000000000000000000000";
+
+/// The start of the bench: IDs 1000, bounding set full, the rest empty.
+pub fn user() -> Credentials {
+    Credentials {
+        ruid: 1000,
+        euid: 1000,
+        suid: 1000,
+        fsuid: 1000,
+        permitted: 0,
+        inheritable: 0,
+        effective: 0,
+        bounding: FULL,
+        ambient: 0,
+        securebits: 0,
+        nnp: false,
+    }
+}
+
+/// As `user`, all IDs 0.
+pub fn root() -> Credentials {
+    with_ids(user(), 0, 0, 0, 0)
+}
+
+/// As `root`, permitted and effective full.
+pub fn full_root() -> Credentials {
+    Credentials { permitted: FULL, effective: FULL, ..root() }
+}
+
+/// As `user`, permitted, inheritable, effective and ambient {NET_RAW}.
+pub fn ambient_user() -> Credentials {
+    Credentials { permitted: NET_RAW, inheritable: NET_RAW, effective: NET_RAW, ambient: NET_RAW, ..user() }
+}
+
+pub fn with_ids(credentials: Credentials, ruid: u32, euid: u32, suid: u32, fsuid: u32) -> Credentials {
+    Credentials { ruid, euid, suid, fsuid, ..credentials }
+}
+
+pub fn ids(credentials: &Credentials) -> [u32; 4] {
+    [credentials.ruid, credentials.euid, credentials.suid, credentials.fsuid]
+}
+
+pub fn step(call: u8, a: u64, b: u64, c: u64) -> Step {
+    Step { call, a, b, c, attr: Vec::new() }
+}
+
+pub fn execve(owner: u64, flags: u64, attr: Vec<u8>) -> Step {
+    Step { call: 1, a: owner, b: flags, c: 0, attr }
+}
+
+/// A version 2 attribute.
+pub fn attribute(permitted: u64, inheritable: u64, effective: bool) -> Vec<u8> {
+    let mut bytes = vec![u8::from(effective), 0, 0, 2];
+    for word in [permitted as u32, inheritable as u32, (permitted >> 32) as u32, (inheritable >> 32) as u32] {
+        bytes.extend_from_slice(&word.to_le_bytes());
+    }
+    bytes
+}
+
+/// Performs a call that the rules allow, and gives the value and the credentials after it.
+pub fn done(before: &Credentials, step: &Step) -> (u64, Credentials) {
+    let Answer { code, value, after } = perform(before, step);
+    assert_eq!(code, 0, "{step:?} on {before:?}");
+    assert!(after.is_valid(), "{step:?} on {before:?}");
+    (value, after)
+}
+
+/// The credentials after a call that the rules allow and that reads nothing.
+pub fn after(before: &Credentials, step: &Step) -> Credentials {
+    let (value, after) = done(before, step);
+    assert_eq!(value, 0);
+    after
+}
+
+/// A call that is refused answers its code, value 0 and the credentials as they were.
+pub fn assert_refused(before: &Credentials, step: &Step, code: u32) {
+    let answer = Answer { code, value: 0, after: before.clone() };
+    assert_eq!(perform(before, step), answer, "{step:?} on {before:?}");
+}
+
+/// The sheet of case 2.
+pub const SHEET: &str = "\
+ruid=1000
+euid=1000
+suid=1000
+fsuid=1000
+permitted=0000000000002000
+inheritable=0000000000002000
+effective=0000000000002000
+bounding=000001ffffffffff
+ambient=0000000000002000
+securebits=00
+nnp=0
+";
+
+/// A plain launch.
+pub const LAUNCH: &str = "\
+call=1
+a=0000000000000000
+b=0000000000000000
+c=0000000000000000
+attr=
+";
+
+/// The paper's whole report of case 2, one step.
+pub const REPORT: &str = "\
+code=0
+value=0000000000000000
+ruid=1000
+euid=1000
+suid=1000
+fsuid=1000
+permitted=0000000000002000
+inheritable=0000000000002000
+effective=0000000000002000
+bounding=000001ffffffffff
+ambient=0000000000002000
+securebits=00
+nnp=0
+";
+
+/// The outcome of a plan, and its report; a refused plan must leave the buffer alone.
+pub fn run(plan: &[u8]) -> (Outcome, String) {
+    let mut buffer = vec![0xa5; 16384];
+    let outcome = run_plan(plan, &mut buffer);
+    let length = if let Outcome::Report { length } = outcome { length } else { 0 };
+    assert!(buffer[length..].iter().all(|&byte| byte == 0xa5));
+    (outcome, String::from_utf8(buffer[..length].to_vec()).unwrap())
+}
+
+pub fn assert_malformed(plan: &[u8], line: u32) {
+    let outcome = run(plan).0;
+    assert_eq!(outcome, Outcome::Malformed { line }, "{:?}", String::from_utf8_lossy(plan));
+}

@@ -1,0 +1,225 @@
+//! Launching, a to f, and the points that are easy to get wrong there.
+
+use crate::helpers::*;
+use second::{perform, Credentials};
+
+/// Bytes that no reader takes.
+fn unreadable() -> Vec<u8> {
+    vec![0xff; 24]
+}
+
+#[test]
+fn a_no_new_privs_nosuid_and_traced_ignore_all() {
+    let nnp = Credentials { nnp: true, ..ambient_user() };
+    let set_ids = SET_USER_ID | SET_GROUP_ID;
+    for attr in [vec![], attribute(FULL, FULL, true), unreadable()] {
+        assert_eq!(after(&nnp, &execve(0, set_ids, attr.clone())), nnp);
+        assert_eq!(after(&ambient_user(), &execve(0, set_ids | NOSUID, attr.clone())), ambient_user());
+        assert_eq!(after(&ambient_user(), &execve(0, set_ids | TRACED, attr)), ambient_user());
+    }
+}
+
+#[test]
+fn a_no_file_caps_ignores_the_attribute_alone() {
+    for attr in [vec![], attribute(FULL, FULL, true), unreadable()] {
+        assert_eq!(after(&ambient_user(), &execve(0, NO_FILE_CAPS, attr.clone())), ambient_user());
+
+        let privileged = after(&ambient_user(), &execve(2000, NO_FILE_CAPS | SET_USER_ID, attr));
+        let expected = with_ids(Credentials { inheritable: NET_RAW, ..user() }, 1000, 2000, 2000, 2000);
+        assert_eq!(privileged, expected);
+    }
+}
+
+#[test]
+fn a_ignored_attribute_counts_as_not_attached_for_root() {
+    // Real 1000, effective 0: with the attribute attached the file's own empty sets would count.
+    let before = with_ids(user(), 1000, 0, 0, 0);
+    let empty = attribute(0, 0, false);
+    assert_eq!(after(&before, &execve(0, 0, empty.clone())).permitted, 0);
+    for flags in [NOSUID, TRACED, NO_FILE_CAPS] {
+        let launched = after(&before, &execve(0, flags, empty.clone()));
+        assert_eq!((launched.permitted, launched.effective), (FULL, FULL));
+    }
+}
+
+#[test]
+fn a_bounding_refusal_does_not_come_from_an_ignored_attribute() {
+    let before = Credentials { bounding: 0, ..user() };
+    let file = attribute(SYS_RAWIO, 0, true);
+    assert_refused(&before, &execve(0, 0, file.clone()), 1);
+    for flags in [NOSUID, TRACED, NO_FILE_CAPS] {
+        assert_eq!(after(&before, &execve(0, flags, file.clone())), before);
+    }
+}
+
+#[test]
+fn b_saved_and_filesystem_ids_follow_in_every_launch() {
+    let before = with_ids(user(), 1, 2, 3, 4);
+    assert_eq!(ids(&after(&before, &execve(9, 0, vec![]))), [1, 2, 2, 2]);
+    assert_eq!(ids(&after(&before, &execve(9, SET_GROUP_ID, vec![]))), [1, 2, 2, 2]);
+    assert_eq!(ids(&after(&before, &execve(9, SET_USER_ID, vec![]))), [1, 9, 9, 9]);
+    assert_eq!(ids(&after(&before, &execve(9, SET_USER_ID | NOSUID, vec![]))), [1, 2, 2, 2]);
+    assert_eq!(ids(&after(&before, &execve(4_294_967_294, SET_USER_ID, vec![])))[1..], [4_294_967_294; 3]);
+}
+
+#[test]
+fn b_the_id_change_rules_do_not_run() {
+    // The saved ID leaves 0 and no other is 0: in an ID call P, E and A would be cleared.
+    let sets = Credentials { permitted: NET_RAW, inheritable: NET_RAW, ambient: NET_RAW, ..user() };
+    let before = with_ids(sets, 1000, 1000, 0, 0);
+    let expected = Credentials { effective: NET_RAW, ..with_ids(before.clone(), 1000, 1000, 1000, 1000) };
+    assert_eq!(after(&before, &execve(0, 0, vec![])), expected);
+
+    // The effective ID leaves 0: in an ID call E would be cleared.
+    let launched = after(&root(), &execve(5, SET_USER_ID, attribute(NET_RAW, 0, true)));
+    assert_eq!((launched.permitted, launched.effective), (FULL, FULL));
+}
+
+#[test]
+fn c_effective_root_counts_the_bit_as_on_and_real_root_does_not() {
+    let real_root = with_ids(user(), 0, 1000, 1000, 1000);
+    let launched = after(&real_root, &execve(0, 0, vec![]));
+    assert_eq!((launched.permitted, launched.effective), (FULL, 0));
+
+    let effective_root = with_ids(user(), 1000, 0, 0, 0);
+    let launched = after(&effective_root, &execve(0, 0, vec![]));
+    assert_eq!((launched.permitted, launched.effective), (FULL, FULL));
+}
+
+#[test]
+fn c_real_root_counts_an_attribute_as_full_but_keeps_its_bit() {
+    let real_root = with_ids(user(), 0, 1000, 1000, 1000);
+    for bit in [false, true] {
+        let launched = after(&real_root, &execve(0, 0, attribute(NET_RAW, 0, bit)));
+        assert_eq!((launched.permitted, launched.effective), (FULL, if bit { FULL } else { 0 }));
+    }
+}
+
+#[test]
+fn c_both_root_counts_an_attribute_as_full_with_the_bit_on() {
+    let launched = after(&root(), &execve(0, 0, attribute(NET_RAW, 0, false)));
+    assert_eq!((launched.permitted, launched.effective), (FULL, FULL));
+}
+
+#[test]
+fn c_the_exception_uses_the_files_own_sets_and_bit() {
+    for bit in [false, true] {
+        let launched = after(&user(), &execve(0, SET_USER_ID, attribute(NET_RAW, 0, bit)));
+        assert_eq!((launched.permitted, launched.effective), (NET_RAW, if bit { NET_RAW } else { 0 }));
+    }
+}
+
+#[test]
+fn c_the_ids_after_b_decide() {
+    // Set-user-ID away from root: real 1000, effective 0 before, owner 2000.
+    let before = with_ids(user(), 1000, 0, 0, 0);
+    let launched = after(&before, &execve(2000, SET_USER_ID, vec![]));
+    assert_eq!((launched.permitted, launched.effective), (0, 0));
+}
+
+#[test]
+fn c_noroot_stops_the_special_treatment() {
+    let before = Credentials { securebits: NOROOT, inheritable: NET_ADMIN, ..root() };
+    assert_eq!(after(&before, &execve(0, 0, vec![])), before);
+    let launched = after(&before, &execve(0, 0, attribute(NET_RAW, NET_ADMIN, true)));
+    assert_eq!((launched.permitted, launched.effective), (NET_RAW | NET_ADMIN, NET_RAW | NET_ADMIN));
+
+    let before = Credentials { securebits: NOROOT << 1, ..root() };
+    assert_eq!(after(&before, &execve(0, 0, vec![])).permitted, FULL);
+}
+
+#[test]
+fn d_each_kind_of_privilege_empties_ambient() {
+    let plain = after(&ambient_user(), &execve(1000, 0, vec![]));
+    assert_eq!(plain.ambient, NET_RAW);
+    for (flags, attr) in
+        [(SET_USER_ID, vec![]), (SET_GROUP_ID, vec![]), (0, attribute(0, 0, false)), (NO_FILE_CAPS | 2, vec![])]
+    {
+        let launched = after(&ambient_user(), &execve(1000, flags, attr));
+        assert_eq!((launched.ambient, launched.permitted, launched.effective), (0, 0, 0));
+    }
+}
+
+#[test]
+fn e_the_three_parts_of_the_new_permitted_set() {
+    let before = Credentials {
+        permitted: 0b0001,
+        inheritable: 0b0111,
+        effective: 0,
+        bounding: 0b11_0000,
+        ambient: 0b0001,
+        ..user()
+    };
+    let launched = after(&before, &execve(0, 0, attribute(0b101_0000, 0b1010, false)));
+    let expected = Credentials { permitted: 0b1_0010, effective: 0, ambient: 0, ..before.clone() };
+    assert_eq!(launched, expected);
+
+    let launched = after(&before, &execve(0, 0, vec![]));
+    assert_eq!(launched, Credentials { permitted: 1, effective: 1, ..before });
+}
+
+#[test]
+fn e_ambient_counts_beside_the_full_sets_of_real_root() {
+    let before = Credentials { bounding: 0, ..with_ids(ambient_user(), 0, 1000, 1000, 1000) };
+    assert_eq!(after(&before, &execve(0, 0, vec![])), before);
+}
+
+#[test]
+fn e_file_inheritable_is_not_masked_by_the_bounding_set() {
+    let before = Credentials { bounding: 0, inheritable: SYS_RAWIO, ..root() };
+    let launched = after(&before, &execve(0, 0, vec![]));
+    assert_eq!((launched.permitted, launched.effective), (SYS_RAWIO, SYS_RAWIO));
+}
+
+#[test]
+fn e_keep_caps_alone_is_cleared() {
+    let before = Credentials { securebits: 0xff, nnp: true, ..user() };
+    assert_eq!(after(&before, &execve(0, 0, vec![])), Credentials { securebits: 0xef, ..before });
+}
+
+#[test]
+fn f_root_is_refused_too() {
+    let before = Credentials { bounding: FULL & !SYS_RAWIO, ..full_root() };
+    assert_refused(&before, &execve(0, 0, attribute(SYS_RAWIO, 0, true)), 1);
+    let launched = after(&before, &execve(0, 0, attribute(SYS_RAWIO, 0, false)));
+    assert_eq!(launched.permitted, FULL & !SYS_RAWIO);
+}
+
+#[test]
+fn f_looks_at_the_files_own_inheritable_set() {
+    // Root with I={17}: with the file counted as full it would get 17 from I, but its own inheritable set is empty.
+    let before = Credentials { bounding: FULL & !SYS_RAWIO, inheritable: SYS_RAWIO, ..root() };
+    assert_refused(&before, &execve(0, 0, attribute(SYS_RAWIO, 0, true)), 1);
+    let launched = after(&before, &execve(0, 0, attribute(SYS_RAWIO, SYS_RAWIO, true)));
+    assert_eq!((launched.permitted, launched.effective), (FULL, FULL));
+}
+
+#[test]
+fn f_holds_in_the_exception_and_under_noroot() {
+    let before = Credentials { bounding: 0, ..user() };
+    assert_refused(&before, &execve(0, SET_USER_ID, attribute(NET_RAW, 0, true)), 1);
+    let before = Credentials { securebits: NOROOT, ..before };
+    assert_refused(&before, &execve(0, SET_USER_ID, attribute(NET_RAW, 0, true)), 1);
+}
+
+#[test]
+fn f_ambient_does_not_help() {
+    let before = Credentials { bounding: 0, ..ambient_user() };
+    assert_refused(&before, &execve(0, 0, attribute(NET_RAW, 0, true)), 1);
+}
+
+#[test]
+fn f_an_empty_permitted_set_is_never_refused() {
+    let before = Credentials { bounding: 0, inheritable: NET_RAW, ..user() };
+    let launched = after(&before, &execve(0, 0, attribute(0, NET_RAW, true)));
+    assert_eq!((launched.permitted, launched.effective), (NET_RAW, NET_RAW));
+}
+
+#[test]
+fn version_1_launches_as_version_2() {
+    let version_1 = vec![1, 0, 0, 1, 0, 0x20, 0, 0, 0, 0x10, 0, 0];
+    let before = Credentials { inheritable: NET_ADMIN, ..user() };
+    let version_2 = execve(0, 0, attribute(NET_RAW, NET_ADMIN, true));
+    assert_eq!(perform(&before, &execve(0, 0, version_1)), perform(&before, &version_2));
+    assert_eq!(after(&before, &version_2).permitted, NET_RAW | NET_ADMIN);
+}
