@@ -3,15 +3,13 @@
  *     buffers PLAN REPORT
  *
  * PLAN is a plan that runs, REPORT its report. Bytes past the report have to stay, and a refused plan changes none. */
-#include <stdint.h>
+#include "../include/urrezkalu.h"
+
 #include <stdio.h>
 #include <stdlib.h>
 #include <string.h>
 
-/* A slice is a pointer and a length. */
-uint64_t urrezkalu_run_plan(const uint8_t *plan, size_t plan_length, uint8_t *report, size_t report_length);
-
-enum { LONGEST = 40000, MALFORMED = 70, INVALID = 72, NO_ROOM = 28 };
+enum { LONGEST = URREZKALU_LONGEST_PLAN + 1 };
 
 static int faults;
 
@@ -63,7 +61,7 @@ int main(int argc, char **argv)
     /* From no byte to one byte short there is no room; exactly right and longer, the report and what was past it. */
     for (size_t room = 0; room <= report_length + 64; room++, tried++) {
         if (room < report_length) {
-            expect("a plan that runs", plan, plan_length, room, (uint64_t)NO_ROOM << 32, report, 0);
+            expect("a plan that runs", plan, plan_length, room, (uint64_t)URREZKALU_NO_ROOM << 32, report, 0);
         } else {
             expect("a plan that runs", plan, plan_length, room, report_length, report, report_length);
         }
@@ -75,9 +73,9 @@ int main(int argc, char **argv)
         int whole = cut != 0 && plan[cut - 1] == '\n';
         line += (uint64_t)whole;
         if (whole && line >= 12 && (line - 12) % 5 == 0) {
-            expect("a plan of fewer steps", plan, cut, 64, (uint64_t)NO_ROOM << 32, report, 0);
+            expect("a plan of fewer steps", plan, cut, 64, (uint64_t)URREZKALU_NO_ROOM << 32, report, 0);
         } else {
-            expect("a plan cut short", plan, cut, 64, (uint64_t)MALFORMED << 32 | line, report, 0);
+            expect("a plan cut short", plan, cut, 64, (uint64_t)URREZKALU_MALFORMED << 32 | line, report, 0);
         }
     }
     /* A real ID of 4294967295 is not valid, whatever the room. */
@@ -86,11 +84,11 @@ int main(int argc, char **argv)
     size_t length = (size_t)sprintf((char *)invalid, "ruid=4294967295");
     memcpy(invalid + length, plan + first, plan_length - first);
     for (size_t room = 0; room <= 512; room += 64, tried++) {
-        expect("a start that is not valid", invalid, length + plan_length - first, room, (uint64_t)INVALID << 32, report, 0);
+        expect("a start that is not valid", invalid, length + plan_length - first, room, (uint64_t)URREZKALU_INVALID << 32, report, 0);
     }
     /* No plan and no buffer, by null pointers. */
     tried++;
-    if (urrezkalu_run_plan(NULL, 0, NULL, 0) != ((uint64_t)MALFORMED << 32 | 1)) {
+    if (urrezkalu_run_plan(NULL, 0, NULL, 0) != ((uint64_t)URREZKALU_MALFORMED << 32 | 1)) {
         printf("buffers: null pointers with length 0\n");
         faults++;
     }
