@@ -9,6 +9,11 @@ fn main() {
         Some(named) => PathBuf::from(named),
         None => PathBuf::from(env!("CARGO_MANIFEST_DIR")).join("../../target/staticlib"),
     };
+    // The linker is not run where this script is, and would look elsewhere.
+    if directory.is_relative() {
+        println!("cargo::error=URREZKALU_LIBRARY is {}: it has to be an absolute path", directory.display());
+        return;
+    }
     let archive = directory.join("libcapi.a");
     println!("cargo::rerun-if-changed={}", archive.display());
     if !archive.is_file() {
