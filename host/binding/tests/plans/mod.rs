@@ -1,0 +1,34 @@
+//! Plans for the tests: the repository's examples by name, and some that are made here.
+#![allow(dead_code, reason = "each test uses some of them")]
+
+use std::fs;
+use std::path::{Path, PathBuf};
+
+/// A sheet whose real ID is not a user's: well-formed, and not valid.
+pub const INVALID_START: &str = "ruid=4294967295\neuid=0\nsuid=0\nfsuid=0\n\
+    permitted=0000000000000000\ninheritable=0000000000000000\neffective=0000000000000000\n\
+    bounding=0000000000000000\nambient=0000000000000000\nsecurebits=00\nnnp=0\n";
+
+/// The directory of the example plans.
+pub fn examples() -> PathBuf {
+    Path::new(env!("CARGO_MANIFEST_DIR")).join("../../examples")
+}
+
+/// The bytes of a file of the examples.
+pub fn read(name: &str) -> Vec<u8> {
+    let path = examples().join(name);
+    fs::read(&path).unwrap_or_else(|error| panic!("{}: {error}", path.display()))
+}
+
+/// A plan in which every line is as long as it can be, with 256 steps. Every step is refused with 22: 99 is no call.
+pub fn longest_plan() -> Vec<u8> {
+    let id = u32::MAX - 1;
+    let full = "000001ffffffffff";
+    let ones = "ffffffffffffffff";
+    let sheet = format!(
+        "ruid={id}\neuid={id}\nsuid={id}\nfsuid={id}\npermitted={full}\ninheritable={full}\neffective={full}\n\
+         bounding={full}\nambient={full}\nsecurebits=ff\nnnp=1\n"
+    );
+    let step = format!("call=99\na={ones}\nb={ones}\nc={ones}\nattr={}\n", "f".repeat(48));
+    [sheet, step.repeat(256)].concat().into_bytes()
+}
