@@ -68,8 +68,11 @@ void give_up(const char *what)
 static void name_the_run(const char *what)
 {
     static const char *const places[PLACES] = {"at the end of the pages", "at the start of the pages", "on the heap"};
-    fprintf(stderr, "sanitize: %s, plan %zu in the stream (0: a file), %zu bytes, %s, room for %zu bytes: %s\n", now.trial->name,
-            now.trial->position, now.trial->text_length, places[now.place], now.room, what);
+    fprintf(stderr, "sanitize: %s", now.trial->name);
+    if (now.trial->position != 0) {
+        fprintf(stderr, ", plan %zu", now.trial->position);
+    }
+    fprintf(stderr, ", %zu bytes, %s, room for %zu bytes: %s\n", now.trial->text_length, places[now.place], now.room, what);
 }
 
 static void name_the_last_run(void)
