@@ -3,7 +3,12 @@
  *     header */
 #include "../include/urrezkalu.h"
 
+#include <assert.h>
 #include <stdio.h>
+
+/* As proved in crates/format/specs/Longest.antt. */
+static_assert(URREZKALU_LONGEST_PLAN == 30683, "the longest plan");
+static_assert(URREZKALU_LONGEST_REPORT == 8155, "the longest report");
 
 struct number {
     uint64_t whole;
