@@ -10,7 +10,6 @@
  * and then in heap blocks of just their lengths. The library itself is not instrumented, so that the sanitizers see only what it hands to
  * the C library; the pages are what ends this program for certain at the library's first byte out of bounds. What can be written and is
  * not the report must keep its pattern, and all runs of a plan must agree. */
-#define _DEFAULT_SOURCE
 #include "sanitize.h"
 
 #include <sanitizer/common_interface_defs.h>
@@ -19,11 +18,9 @@
 #include <stdlib.h>
 #include <string.h>
 #include <sys/mman.h>
-#include <unistd.h>
 
 enum {
     MORE = 64,               /* How much more room than enough is. */
-    GUARD = 1 << 20,         /* The bytes of inaccessible pages on either side. */
     LARGEST_TEXT = 16 << 20, /* No text is longer; in a stream a greater length is a sign that it is out of step. */
     LAST_LINE = 1292         /* The greatest line of a fault: that of a 257th step. */
 };
@@ -59,12 +56,6 @@ const char *__ubsan_default_options(void)
     return "exitcode=99";
 }
 
-void give_up(const char *what)
-{
-    perror(what);
-    exit(TROUBLE);
-}
-
 static void name_the_run(const char *what)
 {
     static const char *const places[PLACES] = {"at the end of the pages", "at the start of the pages", "on the heap"};
@@ -87,39 +78,6 @@ static void expect(struct bench *bench, bool right, const char *what)
     if (!right) {
         name_the_run(what);
         bench->faults++;
-    }
-}
-
-static void allow(struct guarded pages, int protection)
-{
-    if (mprotect(pages.first, pages.size, protection) != 0) {
-        give_up("mprotect");
-    }
-}
-
-/* Whole pages for so many bytes. */
-static size_t whole_pages(size_t least)
-{
-    size_t page = (size_t)sysconf(_SC_PAGESIZE);
-    return (least + page - 1) / page * page;
-}
-
-static struct guarded map_guarded(size_t least)
-{
-    struct guarded pages = {NULL, whole_pages(least)};
-    uint8_t *all = mmap(NULL, pages.size + 2 * (size_t)GUARD, PROT_NONE, MAP_PRIVATE | MAP_ANONYMOUS, -1, 0);
-    if (all == MAP_FAILED) {
-        give_up("mmap");
-    }
-    pages.first = all + GUARD;
-    allow(pages, PROT_READ | PROT_WRITE);
-    return pages;
-}
-
-static void unmap_guarded(struct guarded pages)
-{
-    if (munmap(pages.first - GUARD, pages.size + 2 * (size_t)GUARD) != 0) {
-        give_up("munmap");
     }
 }
 

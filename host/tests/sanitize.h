@@ -1,4 +1,4 @@
-/* What sanitize.c and its self-test share. */
+/* What sanitize.c, its pages and its self-test share. */
 #ifndef SANITIZE_H
 #define SANITIZE_H
 
@@ -15,6 +15,18 @@ struct guarded {
     uint8_t *first;
     size_t size;
 };
+
+/* Prints the system's reason and ends the program. */
+_Noreturn void give_up(const char *what);
+
+/* The bytes of as many whole pages as `least` bytes need. */
+size_t whole_pages(size_t least);
+
+struct guarded map_guarded(size_t least);
+void unmap_guarded(struct guarded pages);
+
+/* Allows the pages what `protection` says, as mprotect does. */
+void allow(struct guarded pages, int protection);
 
 /* Where the two buffers of a run are. The pages come first: there a stray access has no way to spoil the heap unseen. */
 enum place { AT_THE_END, AT_THE_START, ON_THE_HEAP, PLACES };
@@ -35,9 +47,6 @@ struct bench {
 
 void set_up(struct bench *bench, runner *run);
 void clear_away(struct bench *bench);
-
-/* Prints the system's reason and ends the program. */
-_Noreturn void give_up(const char *what);
 
 /* Runs a text in all places with all rooms. `position` is its place in a stream, from 1, or 0 for a file. */
 void try_text(struct bench *bench, const char *name, size_t position, const uint8_t *text, size_t text_length);
