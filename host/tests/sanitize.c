@@ -164,19 +164,6 @@ static void run_and_look(struct bench *bench, const uint8_t *plan, uint8_t *buff
     expect(bench, stays(bench, buffer, length, now.room), "a byte of the buffer has changed that is not the report's");
 }
 
-/* Both buffers touch inaccessible pages. Between the report's buffer and the far end of its pages there is room, which must stay too. */
-static void run_at_the_pages(struct bench *bench, const uint8_t *plan)
-{
-    struct guarded pages = bench->report_pages;
-    uint8_t *buffer = within(pages, now.room);
-    size_t before = (size_t)(buffer - pages.first);
-    fill(bench, pages.first, pages.size);
-    run_and_look(bench, plan, buffer);
-    expect(bench, stays(bench, pages.first, 0, before), "a byte before the buffer has changed");
-    size_t after = before == 0 ? now.room : pages.size;
-    expect(bench, stays(bench, pages.first, after, pages.size), "a byte after the buffer has changed");
-}
-
 /* Both buffers are heap blocks of just their lengths. */
 static void run_on_the_heap(struct bench *bench)
 {
@@ -238,7 +225,7 @@ void try_text(struct bench *bench, const char *name, size_t position, const uint
                 if (now.place == ON_THE_HEAP) {
                     run_on_the_heap(bench);
                 } else {
-                    run_at_the_pages(bench, plan);
+                    run_and_look(bench, plan, within(bench->report_pages, now.room));
                 }
             }
         }

@@ -12,7 +12,7 @@
 #include <unistd.h>
 
 /* As the library is: not instrumented, so that the pages have to catch what these do. */
-#define UNSEEN __attribute__((no_sanitize("address"), noinline))
+#define UNSEEN __attribute__((no_sanitize("address"), no_sanitize("undefined"), noinline))
 
 static const char sheet[] = "ruid=0\neuid=0\nsuid=0\nfsuid=0\npermitted=0000000000000000\ninheritable=0000000000000000\n"
                             "effective=0000000000000000\nbounding=0000000000000000\nambient=0000000000000000\nsecurebits=00\nnnp=0\n";
@@ -141,6 +141,23 @@ UNSEEN static uint64_t writes_past_room(const uint8_t *plan, size_t plan_length,
     return urrezkalu_run_plan(plan, plan_length, report, report_length);
 }
 
+UNSEEN static uint64_t writes_past_too_little_room(const uint8_t *plan, size_t plan_length, uint8_t *report, size_t report_length)
+{
+    uint64_t number = urrezkalu_run_plan(plan, plan_length, report, report_length);
+    if (urrezkalu_code(number) == URREZKALU_NO_ROOM) {
+        write_at(report + report_length);
+    }
+    return number;
+}
+
+UNSEEN static uint64_t follows_null(const uint8_t *plan, size_t plan_length, uint8_t *report, size_t report_length)
+{
+    if (report == NULL) {
+        read_at(report);
+    }
+    return urrezkalu_run_plan(plan, plan_length, report, report_length);
+}
+
 static uint64_t ends_report_with_nul(const uint8_t *plan, size_t plan_length, uint8_t *report, size_t report_length)
 {
     uint64_t number = urrezkalu_run_plan(plan, plan_length, report, report_length);
@@ -182,14 +199,17 @@ static uint64_t keeps_a_count(const uint8_t *plan, size_t plan_length, uint8_t *
 
 static uint64_t has_a_code_of_its_own(const uint8_t *plan, size_t plan_length, uint8_t *report, size_t report_length)
 {
-    urrezkalu_run_plan(plan, plan_length, report, report_length);
+    (void)plan;
+    (void)plan_length;
+    (void)report;
+    (void)report_length;
     return (uint64_t)22 << 32;
 }
 
 /* How a child ends. */
-enum ending { CAUGHT_BY_PAGES, CAUGHT_BY_SANITIZER, CAUGHT_BY_CHECK, NOT_CAUGHT };
+enum ending { FAULT_IN_MEMORY, ENDED_BY_SANITIZER, FOUND_BY_CHECK, NOT_CAUGHT };
 
-static const char *const endings[] = {"the pages", "the sanitizers", "the checks", "nothing"};
+static const char *const endings[] = {"a fault in memory", "an end by the sanitizers", "a fault that was counted", "no fault"};
 
 struct test {
     const char *what;
@@ -199,28 +219,30 @@ struct test {
 };
 
 static const struct test tests[] = {
-    {"a read before the plan's pages", read_before_plan_pages, NULL, CAUGHT_BY_PAGES},
-    {"a read after the plan's pages", read_after_plan_pages, NULL, CAUGHT_BY_PAGES},
-    {"a write before the plan's pages", write_before_plan_pages, NULL, CAUGHT_BY_PAGES},
-    {"a write after the plan's pages", write_after_plan_pages, NULL, CAUGHT_BY_PAGES},
-    {"a read before the report's pages", read_before_report_pages, NULL, CAUGHT_BY_PAGES},
-    {"a read after the report's pages", read_after_report_pages, NULL, CAUGHT_BY_PAGES},
-    {"a write before the report's pages", write_before_report_pages, NULL, CAUGHT_BY_PAGES},
-    {"a write after the report's pages", write_after_report_pages, NULL, CAUGHT_BY_PAGES},
-    {"a write past a heap block", write_past_heap_block, NULL, CAUGHT_BY_SANITIZER},
-    {"a memset past a heap block", memset_past_heap_block, NULL, CAUGHT_BY_SANITIZER},
-    {"a sum that overflows", overflow_a_sum, NULL, CAUGHT_BY_SANITIZER},
-    {"a runner that reads before the plan", NULL, reads_before_plan, CAUGHT_BY_PAGES},
-    {"a runner that reads past the plan", NULL, reads_past_plan, CAUGHT_BY_PAGES},
-    {"a runner that writes to the plan", NULL, writes_to_plan, CAUGHT_BY_PAGES},
-    {"a runner that writes before the report", NULL, writes_before_report, CAUGHT_BY_PAGES},
-    {"a runner that writes past the room", NULL, writes_past_room, CAUGHT_BY_PAGES},
-    {"a runner that ends the report with a NUL", NULL, ends_report_with_nul, CAUGHT_BY_CHECK},
-    {"a runner that writes though it refuses", NULL, writes_though_refused, CAUGHT_BY_CHECK},
-    {"a runner that wants one byte more", NULL, wants_one_byte_more, CAUGHT_BY_CHECK},
-    {"a runner that is done without room", NULL, says_done_without_room, CAUGHT_BY_CHECK},
-    {"a runner that keeps a count", NULL, keeps_a_count, CAUGHT_BY_CHECK},
-    {"a runner with a code of its own", NULL, has_a_code_of_its_own, CAUGHT_BY_CHECK},
+    {"a read before the plan's pages", read_before_plan_pages, NULL, FAULT_IN_MEMORY},
+    {"a read after the plan's pages", read_after_plan_pages, NULL, FAULT_IN_MEMORY},
+    {"a write before the plan's pages", write_before_plan_pages, NULL, FAULT_IN_MEMORY},
+    {"a write after the plan's pages", write_after_plan_pages, NULL, FAULT_IN_MEMORY},
+    {"a read before the report's pages", read_before_report_pages, NULL, FAULT_IN_MEMORY},
+    {"a read after the report's pages", read_after_report_pages, NULL, FAULT_IN_MEMORY},
+    {"a write before the report's pages", write_before_report_pages, NULL, FAULT_IN_MEMORY},
+    {"a write after the report's pages", write_after_report_pages, NULL, FAULT_IN_MEMORY},
+    {"a write past a heap block", write_past_heap_block, NULL, ENDED_BY_SANITIZER},
+    {"a memset past a heap block", memset_past_heap_block, NULL, ENDED_BY_SANITIZER},
+    {"a sum that overflows", overflow_a_sum, NULL, ENDED_BY_SANITIZER},
+    {"a runner that reads before the plan", NULL, reads_before_plan, FAULT_IN_MEMORY},
+    {"a runner that reads past the plan", NULL, reads_past_plan, FAULT_IN_MEMORY},
+    {"a runner that writes to the plan", NULL, writes_to_plan, FAULT_IN_MEMORY},
+    {"a runner that writes before the report", NULL, writes_before_report, FAULT_IN_MEMORY},
+    {"a runner that writes past the room", NULL, writes_past_room, FAULT_IN_MEMORY},
+    {"a runner that writes past too little room", NULL, writes_past_too_little_room, FAULT_IN_MEMORY},
+    {"a runner that follows a null pointer", NULL, follows_null, FAULT_IN_MEMORY},
+    {"a runner that ends the report with a NUL", NULL, ends_report_with_nul, FOUND_BY_CHECK},
+    {"a runner that writes though it refuses", NULL, writes_though_refused, FOUND_BY_CHECK},
+    {"a runner that wants one byte more", NULL, wants_one_byte_more, FOUND_BY_CHECK},
+    {"a runner that is done without room", NULL, says_done_without_room, FOUND_BY_CHECK},
+    {"a runner that keeps a count", NULL, keeps_a_count, FOUND_BY_CHECK},
+    {"a runner with a code of its own", NULL, has_a_code_of_its_own, FOUND_BY_CHECK},
     {"the library itself", NULL, urrezkalu_run_plan, NOT_CAUGHT},
 };
 
@@ -244,16 +266,16 @@ _Noreturn static void in_the_child(const struct test *test)
 static enum ending ending_of(int status)
 {
     if (WIFSIGNALED(status) && WTERMSIG(status) == SIGSEGV) {
-        return CAUGHT_BY_PAGES;
+        return FAULT_IN_MEMORY;
     }
     if (WIFEXITED(status)) {
         switch (WEXITSTATUS(status)) {
         case 0:
             return NOT_CAUGHT;
         case FAULTS:
-            return CAUGHT_BY_CHECK;
+            return FOUND_BY_CHECK;
         case SANITIZER:
-            return CAUGHT_BY_SANITIZER;
+            return ENDED_BY_SANITIZER;
         }
     }
     fprintf(stderr, "sanitize: self-test: a child came to the unexpected status %#x\n", (unsigned)status);
@@ -272,7 +294,7 @@ static bool ends_as_expected(const struct test *test)
     }
     enum ending found = ending_of(status);
     if (found != test->ending) {
-        printf("sanitize: self-test: %s is caught by %s, and should be by %s\n", test->what, endings[found], endings[test->ending]);
+        printf("sanitize: self-test: %s comes to %s, and should come to %s\n", test->what, endings[found], endings[test->ending]);
     }
     return found == test->ending;
 }
