@@ -8,7 +8,7 @@
  * A plan is run with no room, with one byte too few, with exactly enough and with more, and all that in three places: with both buffers at
  * the very end, and then at the very start, of mappings that have inaccessible pages on both sides, the plan in pages that cannot be written;
  * and then in heap blocks of just their lengths. The library itself is not instrumented, so that the sanitizers see only what it hands to
- * the C library; the pages are what ends this program for certain at the library's first byte out of bounds. What can be written and is
+ * the C library; the pages are what ends this program for certain at the library's first byte out of bounds. What is in the buffer and is
  * not the report must keep its pattern, and all runs of a plan must agree. */
 #include "sanitize.h"
 
