@@ -1,0 +1,164 @@
+//! Plans that are run whatever the seed: the paper's cases 1 to 13 ("On the bench"), points that it leaves to the reader (docs/DECISIONS.md, 23), every
+//! value of the securebits, and the example plans.
+
+use crate::attribute::version_2;
+use crate::credentials::*;
+use crate::step::*;
+use std::path::Path;
+use std::{fs, io};
+
+const ROOT: u32 = 0;
+const USER: u32 = 1000;
+const NET_ADMIN: u64 = 1 << 12;
+const NET_BIND_SERVICE: u64 = 1 << 10;
+const NET_RAW: u64 = 1 << 13;
+const SETUID_ALONE: u64 = 1 << 7;
+const SYS_RAWIO: u64 = 1 << 17;
+
+fn plan(name: &str, credentials: Credentials, steps: Vec<Step>) -> Plan {
+    Plan { name: name.to_owned(), start: Thread { credentials, gids: plain_groups(), member: None }, steps }
+}
+
+/// The paper's cases, some of two plans.
+pub fn cases() -> Vec<Plan> {
+    let user = Credentials { uids: Ids::all(USER), bounding: FULL, ..Credentials::default() };
+    let root = Credentials { uids: Ids::all(ROOT), ..user };
+    let with =
+        |set: u64, ambient: u64| Credentials { permitted: set, inheritable: set, effective: set, ambient, ..user };
+    let all = Credentials { permitted: FULL, effective: FULL, ..root };
+    let without_rawio = Credentials { bounding: FULL & !SYS_RAWIO, ..user };
+    let keeping = |from: Credentials| Credentials { securebits: SECBIT_KEEP_CAPS, ..from };
+    let split = Credentials {
+        uids: Ids { effective: USER, ..Ids::all(ROOT) },
+        permitted: SETUID_ALONE | NET_ADMIN,
+        effective: NET_ADMIN,
+        ..keeping(user)
+    };
+    let plain = || vec![Step::launch(ROOT, 0, &[])];
+    let launch = |flags: u64, attribute: Vec<u8>| vec![Step::launch(ROOT, flags, &attribute)];
+    let thrice = u64::from(USER);
+    vec![
+        plan("case 1", with(NET_RAW, 0), plain()),
+        plan("case 2", with(NET_RAW, NET_RAW), plain()),
+        plan("case 3", with(NET_RAW, NET_RAW), launch(0, version_2(NET_BIND_SERVICE, 0, true))),
+        plan(
+            "case 4",
+            Credentials { inheritable: SYS_RAWIO, ..without_rawio },
+            launch(0, version_2(0, SYS_RAWIO, false)),
+        ),
+        plan("case 5, bit on", without_rawio, launch(0, version_2(SYS_RAWIO, 0, true))),
+        plan("case 5, bit off", without_rawio, launch(0, version_2(SYS_RAWIO, 0, false))),
+        plan("case 6", Credentials { uids: Ids::all(ROOT), ..without_rawio }, plain()),
+        plan("case 7", user, launch(SET_USER_ID, version_2(0, 0, false))),
+        plan("case 8", user, launch(SET_USER_ID, Vec::new())),
+        plan("case 9", all, vec![Step::with(SETUID, thrice, 0, 0)]),
+        plan("case 9, keep-caps", keeping(all), vec![Step::with(SETUID, thrice, 0, 0)]),
+        plan("case 10", split, vec![Step::with(SETRESUID, thrice, thrice, thrice)]),
+        plan("case 11", all, vec![Step::with(SETFSUID, thrice, 0, 0)]),
+        plan("case 12", Credentials { securebits: 0x30, ..user }, plain()),
+        plan("case 13", user, vec![Step::with(BOUNDING_READ, 40, 0, 0), Step::with(BOUNDING_READ, 41, 0, 0)]),
+    ]
+}
+
+/// The points of decision 23, each as one plan.
+pub fn points() -> Vec<Plan> {
+    let user = Credentials { uids: Ids::all(USER), bounding: FULL, ..Credentials::default() };
+    let real_root = Credentials { uids: Ids { real: ROOT, ..Ids::all(USER) }, ..user };
+    let effective_root = Credentials { uids: Ids { real: USER, ..Ids::all(ROOT) }, ..user };
+    let ambient = Credentials { permitted: NET_RAW, inheritable: NET_RAW, ambient: NET_RAW, ..user };
+    let apart = Credentials { uids: Ids { effective: 1001, saved: 1002, filesystem: 1003, real: USER }, ..user };
+    let launch = |owner: u32, flags: u64, attribute: Vec<u8>| vec![Step::launch(owner, flags, &attribute)];
+    let (leave, given) = (u64::from(LEAVE), u64::from(USER));
+    vec![
+        plan("set-user-ID bit of the effective ID", ambient, launch(USER, SET_USER_ID, Vec::new())),
+        plan("real ID 0 alone, bit off", real_root, launch(ROOT, 0, version_2(NET_RAW, 0, false))),
+        plan("real ID 0 alone, bit on", real_root, launch(ROOT, 0, version_2(NET_RAW, 0, true))),
+        plan("effective ID 0 alone, attached", effective_root, launch(ROOT, 0, version_2(NET_RAW, 0, true))),
+        plan("effective ID 0 alone, ignored", effective_root, launch(ROOT, NOSUID, version_2(NET_RAW, 0, true))),
+        plan(
+            "rule f for root",
+            Credentials { bounding: FULL & !SYS_RAWIO, ..Credentials { uids: Ids::all(ROOT), ..user } },
+            launch(ROOT, 0, version_2(SYS_RAWIO, 0, true)),
+        ),
+        plan(
+            "raise of an ambient one",
+            Credentials { securebits: SECBIT_NO_CAP_AMBIENT_RAISE, ..ambient },
+            vec![Step::with(AMBIENT_RAISE, 13, 0, 0)],
+        ),
+        plan("the old securebits", user, vec![Step::with(SET_SECUREBITS, 0, 0, 0)]),
+        plan("setreuid, nothing given", apart, vec![Step::with(SETREUID, leave, leave, 0)]),
+        plan("setresuid, nothing given", apart, vec![Step::with(SETRESUID, leave, leave, leave)]),
+        plan("setreuid, the old real ID", apart, vec![Step::with(SETREUID, given, leave, 0)]),
+        plan("an unused operand that elsewhere leaves an ID", user, vec![Step::with(SETUID, given, leave, 0)]),
+    ]
+}
+
+/// Every value of the securebits as a start: read, kept over an ID change, and left by a launch.
+pub fn securebits() -> Vec<Plan> {
+    let root = Credentials {
+        uids: Ids::all(ROOT),
+        permitted: FULL,
+        effective: FULL,
+        bounding: FULL,
+        ..Credentials::default()
+    };
+    let from = |securebits: u32| {
+        let steps = vec![
+            Step::new(GET_SECUREBITS),
+            Step::with(SET_KEEP_CAPS, 1, 0, 0),
+            Step::with(SETUID, u64::from(USER), 0, 0),
+            Step::launch(ROOT, SET_USER_ID, &[]),
+            Step::new(GET_SECUREBITS),
+        ];
+        plan(&format!("securebits {securebits:02x}"), Credentials { securebits, ..root }, steps)
+    };
+    (0..=SECBITS_OF_THE_PAPER).map(from).collect()
+}
+
+/// The example plans in a directory and the directories in it, and how many of its plans are none: broken texts, and starts that are not valid.
+pub fn examples(directory: &Path) -> io::Result<(Vec<Plan>, usize)> {
+    let (mut plans, mut none) = (Vec::new(), 0);
+    let mut entries = fs::read_dir(directory)?.map(|entry| Ok(entry?.path())).collect::<io::Result<Vec<_>>>()?;
+    entries.sort();
+    for path in entries {
+        if path.is_dir() {
+            let (more, none_there) = examples(&path)?;
+            plans.extend(more);
+            none += none_there;
+        } else if path.extension().is_some_and(|extension| extension == "plan") {
+            match parse(&fs::read_to_string(&path)?) {
+                Some((start, steps)) => plans.push(plan(&path.display().to_string(), start, steps)),
+                None => none += 1,
+            }
+        }
+    }
+    Ok((plans, none))
+}
+
+// The library decides what a plan is; its text is then read without further care.
+fn parse(text: &str) -> Option<(Credentials, Vec<Step>)> {
+    let mut report = [0; urrezkalu::LONGEST_REPORT];
+    let urrezkalu::Outcome::Report { .. } = urrezkalu::run_plan(text.as_bytes(), &mut report) else { return None };
+    let mut lines = text.lines().peekable();
+    let start = Credentials::from_lines(&mut lines)?;
+    let mut steps = Vec::new();
+    while lines.peek().is_some() {
+        steps.push(Step::from_lines(&mut lines)?);
+    }
+    Some((start, steps))
+}
+
+/// Cuts a plan's start to what the machine has, and gives its launches groups. Says whether the start had to be cut.
+pub fn fit(plan: &mut Plan, permitted: u64, bounding: u64) -> bool {
+    let start = &mut plan.start.credentials;
+    let before = *start;
+    start.bounding &= bounding;
+    start.inheritable &= bounding;
+    start.permitted &= permitted;
+    start.effective &= start.permitted;
+    start.ambient &= start.permitted & start.inheritable;
+    for (place, step) in plan.steps.iter_mut().enumerate() {
+        step.setting.group = Step::fresh_group(place);
+    }
+    before != plan.start.credentials
+}

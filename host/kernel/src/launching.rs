@@ -1,0 +1,108 @@
+//! A launch: what the paper's rules a to f give, and with each switch what the kernel gives instead.
+
+use crate::attribute::{read, FileCapabilities};
+use crate::credentials::*;
+use crate::departures::{Departure::*, Switches};
+use crate::step::{Step, Tracer, NOSUID, NO_FILE_CAPS, SET_GROUP_ID, SET_USER_ID, TRACED};
+
+const EPERM: u32 = 1;
+const UNREADABLE: u32 = 60;
+
+/// Launches the file of `step`.
+pub fn launch(on: Switches, before: &Thread, step: &Step) -> Outcome {
+    let old = &before.credentials;
+    let reading = if ignores_attribute(on, old, step) { Some(FileCapabilities::default()) } else { read(on, step) };
+    let Some(file) = reading else { return Outcome::refused(UNREADABLE, before) };
+    let from_file = old.inheritable & file.inheritable | old.bounding & file.permitted;
+    if file.effective && file.permitted & !from_file != 0 {
+        return Outcome::refused(EPERM, before);
+    }
+
+    let mut new = *before;
+    let set_id = if ignores_set_id(on, old, step) { 0 } else { step.b & (SET_USER_ID | SET_GROUP_ID) };
+    if set_id & SET_USER_ID != 0 {
+        new.credentials.uids.effective = step.a as u32;
+    }
+    if set_id & SET_GROUP_ID != 0 {
+        new.gids.effective = step.setting.group;
+    }
+
+    let is_root = counts_as_root(&new.credentials, file.attached);
+    let bit = file.effective || is_root && new.credentials.uids.effective == 0;
+    new.credentials.permitted = if is_root { old.inheritable | old.bounding } else { from_file };
+    let changes = changes_ids(on, before, &new, set_id);
+    let gains = new.credentials.permitted & !old.permitted != 0;
+    if changes || gains {
+        cut(on, before, step, is_root, &mut new);
+    }
+
+    follow(&mut new.credentials.uids);
+    follow(&mut new.gids);
+    if file.attached || changes || counts_unchanged(on, before, step, set_id) {
+        new.credentials.ambient = 0;
+    }
+    new.credentials.permitted |= new.credentials.ambient;
+    new.credentials.effective = if bit { new.credentials.permitted } else { new.credentials.ambient };
+    new.credentials.securebits &= !SECBIT_KEEP_CAPS;
+    Outcome::done(0, new)
+}
+
+fn ignores_set_id(on: Switches, old: &Credentials, step: &Step) -> bool {
+    step.flagged(NOSUID) || old.nnp || step.flagged(TRACED) && !on.on(TracedHonoursSetId)
+}
+
+fn ignores_attribute(on: Switches, old: &Credentials, step: &Step) -> bool {
+    step.flagged(NOSUID)
+        || step.flagged(NO_FILE_CAPS)
+        || old.nnp && !on.on(NoNewPrivsReadsAttribute)
+        || step.flagged(TRACED) && !on.on(TracedReadsAttribute)
+}
+
+// "Launching, c": whether both file sets count as full. The IDs are the new ones.
+fn counts_as_root(new: &Credentials, attached: bool) -> bool {
+    let (real, effective) = (new.uids.real == 0, new.uids.effective == 0);
+    let is_exception = attached && !real && effective;
+    (real || effective) && !is_exception && !new.is_secure(SECBIT_NOROOT)
+}
+
+// Whether an ID changes: the effective user ID becomes another, or the effective group is then one that the thread was not in. The kernel asks the
+// second also where no set-group-ID bit is in force.
+fn changes_ids(on: Switches, before: &Thread, new: &Thread, set_id: u64) -> bool {
+    let asks_group = set_id & SET_GROUP_ID != 0 || on.on(FilesystemGroupApart);
+    new.credentials.uids.effective != before.credentials.uids.effective
+        || asks_group && !before.is_in_group(new.gids.effective)
+}
+
+// The kernel's way with a launch that is not safe: done, but with no more than there was before.
+fn cut(on: Switches, before: &Thread, step: &Step, is_root: bool, new: &mut Thread) {
+    let old = &before.credentials;
+    let is_able = match step.setting.tracer {
+        Tracer::Asked => old.has(CAP_SYS_PTRACE),
+        Tracer::Seized => true,
+    };
+    let is_watched = step.flagged(TRACED) && !is_able;
+    let (by_nnp, by_tracer) =
+        if is_root { (NoNewPrivsCutsRoot, TracedCutsRoot) } else { (NoNewPrivsCutsGain, TracedCutsGain) };
+    if old.nnp && on.on(by_nnp) || is_watched && on.on(by_tracer) {
+        new.credentials.permitted &= old.permitted;
+    }
+    let resets = old.nnp && on.on(NoNewPrivsResetsEffectiveId)
+        || is_watched && !old.has(CAP_SETUID) && on.on(TracedResetsEffectiveId);
+    if resets {
+        new.credentials.uids.effective = old.uids.real;
+        new.gids.effective = new.gids.real;
+    }
+}
+
+// In every launch the saved and the filesystem ID become the effective one.
+fn follow(ids: &mut Ids) {
+    ids.saved = ids.effective;
+    ids.filesystem = ids.effective;
+}
+
+// "Launching, d" counts a set-ID bit also where it changes nothing.
+fn counts_unchanged(on: Switches, before: &Thread, step: &Step, set_id: u64) -> bool {
+    let own_id = set_id & SET_USER_ID != 0 && step.a as u32 == before.credentials.uids.effective;
+    let own_group = set_id & SET_GROUP_ID != 0 && before.is_in_group(step.setting.group);
+    own_id && !on.on(SetUserIdToOwnId) || own_group && !on.on(SetGroupIdToOwnGroup)
+}

@@ -1,0 +1,182 @@
+//! Runs plans on the kernel and lays what it did beside what the proved library says. Every difference has a name, or the run fails.
+//!
+//!     kernel HARNESS EXAMPLES [--count N] [--seed N] [--verbose] [--without DEPARTURE]
+//!
+//! HARNESS is the C program of `harness/`, EXAMPLES a directory of plans. Needs root. `--verbose` names every difference; `--without` takes a departure
+//! away, so that the run has to fail. Status 1: a step is not explained, a known departure was never seen, or something is left on the machine. Status 2: it
+//! cannot be run here.
+
+mod attribute;
+mod calls;
+mod comparison;
+mod credentials;
+mod departures;
+mod fixed;
+mod generator;
+mod harness;
+mod image;
+mod launching;
+mod prediction;
+mod random;
+mod remains;
+mod step;
+mod tally;
+#[cfg(test)]
+mod tests;
+
+use comparison::{compare, Fault, Verdict};
+use departures::Switches;
+use generator::Generator;
+use harness::Harness;
+use image::Image;
+use random::Random;
+use remains::Remains;
+use step::Plan;
+use tally::Tally;
+
+use std::path::Path;
+use std::process::ExitCode;
+use std::{env, fs, io};
+
+const USAGE: &str = "kernel HARNESS EXAMPLES [--count N] [--seed N] [--verbose] [--without DEPARTURE]";
+
+/// Faults are printed up to this many, and then only counted.
+const PRINTED: u64 = 5;
+
+struct Options {
+    harness: String,
+    examples: String,
+    count: u64,
+    seed: u64,
+    verbose: bool,
+    known: Switches,
+}
+
+fn options() -> Option<Options> {
+    let mut arguments = env::args().skip(1);
+    let (harness, examples) = (arguments.next()?, arguments.next()?);
+    let mut options = Options { harness, examples, count: 5000, seed: 1, verbose: false, known: Switches::EVERY };
+    while let Some(argument) = arguments.next() {
+        match argument.as_str() {
+            "--count" => options.count = arguments.next()?.parse().ok()?,
+            "--seed" => options.seed = arguments.next()?.parse().ok()?,
+            "--verbose" => options.verbose = true,
+            "--without" => options.known = options.known.without_named(&arguments.next()?)?,
+            _ => return None,
+        }
+    }
+    Some(options)
+}
+
+// A line of /proc/sys/kernel.
+fn about(name: &str) -> String {
+    fs::read_to_string(Path::new("/proc/sys/kernel").join(name)).unwrap_or_default().trim().to_owned()
+}
+
+fn main() -> ExitCode {
+    let Some(options) = options() else {
+        eprintln!("{USAGE}");
+        return ExitCode::from(2);
+    };
+    if about("cap_last_cap") != credentials::CAP_LAST_CAP.to_string() {
+        eprintln!(
+            "kernel: the last capability of this kernel is {}, and not {}",
+            about("cap_last_cap"),
+            credentials::CAP_LAST_CAP
+        );
+        return ExitCode::from(2);
+    }
+    let before = Remains::now();
+    let tally = match run(&options) {
+        Ok(tally) => tally,
+        Err(error) => {
+            eprintln!("kernel: {error}");
+            return ExitCode::from(2);
+        }
+    };
+    print!("{tally}");
+    let nothing_left = before.are_again();
+    println!("\nleft behind: {}", if nothing_left { "nothing" } else { "mounts or loop devices are not as they were" });
+    let never_seen: Vec<&str> = tally.never_seen().collect();
+    never_seen.iter().for_each(|name| println!("FAILED: {name} was never seen"));
+    ExitCode::from(u8::from(tally.unexplained != 0 || !never_seen.is_empty() || !nothing_left))
+}
+
+/// Runs the fixed plans and then the random ones, and counts them.
+fn run(options: &Options) -> io::Result<Tally> {
+    let mut tally = Tally::default();
+    let (examples, none) = fixed::examples(Path::new(&options.examples))?;
+    (0..none).for_each(|_| tally.not_run("an example that is no plan or has no valid start"));
+    let mut fixed: Vec<Plan> =
+        [fixed::cases(), fixed::points(), fixed::securebits(), examples].into_iter().flatten().collect();
+
+    let mut harness = Harness::new(&options.harness)?;
+    let (permitted, bounding) = (harness.permitted, harness.bounding);
+    println!("Linux {}, permitted {permitted:016x}, bounding {bounding:016x}", about("osrelease"));
+    println!("{} fixed plans, {} random plans of seed {}\n", fixed.len(), options.count, options.seed);
+    let image = Image::new(&fixed);
+    harness.make_image(&image)?;
+
+    for plan in &mut fixed {
+        tally.starts_cut += u64::from(fixed::fit(plan, permitted, bounding));
+        plan.steps.iter_mut().for_each(|step| image.furnish(step));
+    }
+    for plan in fixed {
+        run_plan(options, &mut harness, plan, &mut tally)?;
+    }
+    let mut generator = Generator { random: Random::new(options.seed), image: &image, permitted, bounding };
+    for number in 0..options.count {
+        let plan = generator.plan(format!("seed {}, plan {number}", options.seed));
+        run_plan(options, &mut harness, plan, &mut tally)?;
+    }
+    harness.end()?;
+    Ok(tally)
+}
+
+/// Runs one plan, without the steps that cannot be run, and counts it. A fault is printed.
+fn run_plan(options: &Options, harness: &mut Harness, mut plan: Plan, tally: &mut Tally) -> io::Result<()> {
+    plan.steps.retain(|step| {
+        let reason = step.not_run();
+        reason.into_iter().for_each(|reason| tally.not_run(reason));
+        reason.is_none()
+    });
+    let seen = harness.run(&plan)?;
+    match compare(options.known, &plan, &seen) {
+        Ok(verdicts) => {
+            if options.verbose {
+                print_explained(&plan, &verdicts);
+            }
+            let codes: Vec<u32> = seen.outcomes.iter().map(|outcome| outcome.code).collect();
+            tally.plan(&plan, &codes, &verdicts);
+        }
+        Err(fault) => {
+            tally.unexplained += 1;
+            if tally.unexplained <= PRINTED {
+                print_fault(&plan, &fault);
+            }
+        }
+    }
+    Ok(())
+}
+
+fn print_explained(plan: &Plan, verdicts: &[Verdict]) {
+    for (place, verdict) in verdicts.iter().enumerate() {
+        if let Verdict::Explained(switches) = verdict {
+            let names: Vec<&str> = switches.names().map(|departure| departure.name()).collect();
+            println!("{}, step {}: {}", plan.name, place + 1, names.join(", "));
+        }
+    }
+}
+
+fn print_fault(plan: &Plan, fault: &Fault) {
+    println!("FAILED: {}: {}", plan.name, fault.what);
+    println!("start: {:x?}", plan.start);
+    let upto = fault.place.map_or(plan.steps.len(), |place| place + 1);
+    for step in &plan.steps[..upto] {
+        println!("step: {step:x?}");
+    }
+    for (name, outcome) in &fault.outcomes {
+        println!("{name}: {outcome:x?}");
+    }
+    println!();
+}
