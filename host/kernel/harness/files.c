@@ -1,6 +1,7 @@
 /* The files that are launched. They live on a tmpfs and on an ext4 image in a mount namespace of the harness's own, so that no other process
  * ever sees them and all of it is gone when the harness is, however it ends. */
 #define _GNU_SOURCE
+#include <errno.h>
 #include <fcntl.h>
 #include <linux/loop.h>
 #include <stdio.h>
@@ -19,6 +20,9 @@
 #define PLACE "/tmp"
 #define LAUNCHED PLACE "/files/launched"
 #define ATTRIBUTE "security.capability"
+
+/* The image has the run's own name, and so has the tmpfs: by these it could be told from outside that something is left. */
+static char image[LONGEST_PATH];
 
 /* Each place has a second way in, by a nosuid bind mount. */
 static void mount_nosuid(const char *place, const char *nosuid)
@@ -44,11 +48,12 @@ static void copy_self(const char *to)
     close(copy);
 }
 
-void prepare_places(void)
+void prepare_places(const char *tag)
 {
     static const char *const directories[] = {PLACE "/files", PLACE "/files-nosuid", PLACE "/image", PLACE "/image-nosuid"};
+    snprintf(image, sizeof image, PLACE "/%s", tag);
     umask(022);
-    if (mount(NULL, "/", NULL, MS_REC | MS_PRIVATE, NULL) != 0 || mount("tmpfs", PLACE, "tmpfs", 0, "mode=0755") != 0) {
+    if (mount(NULL, "/", NULL, MS_REC | MS_PRIVATE, NULL) != 0 || mount(tag, PLACE, "tmpfs", 0, "mode=0755") != 0) {
         give_up("mount");
     }
     for (size_t i = 0; i < sizeof directories / sizeof *directories; i++) {
@@ -72,7 +77,11 @@ static void run(char *const arguments[])
         _exit(127);
     }
     int status;
-    if (child == -1 || waitpid(child, &status, 0) != child || status != 0) {
+    if (child == -1 || waitpid(child, &status, 0) != child) {
+        give_up(arguments[0]);
+    }
+    if (status != 0) {
+        errno = WIFEXITED(status) && WEXITSTATUS(status) == 127 ? ENOENT : EIO;
         give_up(arguments[0]);
     }
 }
@@ -104,7 +113,7 @@ static void write_commands(const struct file *files, uint32_t count)
 }
 
 /* Attaches the image to a loop device that lets go of it when it is unmounted, and mounts it. */
-static void mount_image(const char *image)
+static void mount_image(void)
 {
     char device[LONGEST_PATH];
     int control = open("/dev/loop-control", O_RDWR | O_CLOEXEC);
@@ -147,15 +156,15 @@ void make_image(const struct file *files, uint32_t count)
     }
     /* Room for the files and, generously, for what ext4 keeps beside them. */
     off_t size = (off_t)count * (self.st_size + (1 << 14)) * 5 / 4 + (8 << 20);
-    int image = open(PLACE "/ext4", O_WRONLY | O_CREAT | O_EXCL | O_CLOEXEC, 0600);
-    if (image == -1 || ftruncate(image, size) != 0) {
-        give_up("image");
+    int empty = open(image, O_WRONLY | O_CREAT | O_EXCL | O_CLOEXEC, 0600);
+    if (empty == -1 || ftruncate(empty, size) != 0) {
+        give_up(image);
     }
-    close(image);
+    close(empty);
     write_commands(files, count);
-    run((char *[]){"mkfs.ext4", "-q", "-F", "-O", "^has_journal", "-I", "256", PLACE "/ext4", NULL});
-    run((char *[]){"debugfs", "-w", "-f", PLACE "/commands", PLACE "/ext4", NULL});
-    mount_image(PLACE "/ext4");
+    run((char *[]){"mkfs.ext4", "-q", "-F", "-O", "^has_journal", "-I", "256", image, NULL});
+    run((char *[]){"debugfs", "-w", "-f", PLACE "/commands", image, NULL});
+    mount_image();
     check_image(files, count);
 }
 

@@ -1,10 +1,11 @@
 /* Runs plans on the kernel: for each, a thread is put into the plan's start, makes its calls, and is looked at after every one.
  *
- *     harness
+ *     harness TAG
  *
- * Standard input, numbers in hex: `image COUNT` and COUNT lines `OWNER GROUP LENGTH BYTES`, the files whose attributes setxattr(2) refuses; then any
- * number of plans, each `plan STEPS`, a line of the start and STEPS lines of a step (see `read_start` and `read_step`). Standard output: a line about the
- * machine; then for each plan the state at the start and, for each step, errno, value and state. Status 2: the machine is not as it has to be. */
+ * TAG names the run's mounts. Standard input, numbers in hex: `image COUNT` and COUNT lines `OWNER GROUP LENGTH BYTES`, the files whose attributes
+ * setxattr(2) refuses; then any number of plans, each `plan STEPS`, a line of the start and STEPS lines of a step (see `read_start` and `read_step`).
+ * Standard output: a line about the machine; then for each plan a line for the start and one for each step: errno, value and state. Status 2: the
+ * machine is not as it has to be. */
 #define _GNU_SOURCE
 #include <errno.h>
 #include <fcntl.h>
@@ -234,13 +235,13 @@ static void print_machine(void)
 }
 
 /* Number 1 of a process namespace: when it ends, by whatever cause, every thread in the namespace is ended, and the mounts with them. */
-static _Noreturn void harness(void)
+static _Noreturn void harness(const char *tag)
 {
     uint32_t steps;
     struct rlimit unlimited = {RLIM_INFINITY, RLIM_INFINITY};
     signal(SIGALRM, out_of_patience);
     setrlimit(RLIMIT_NPROC, &unlimited);
-    prepare_places();
+    prepare_places(tag);
     print_machine();
     read_image();
     while (scanf(" plan %" SCNx32, &steps) == 1) {
@@ -254,6 +255,10 @@ int main(int argc, char **argv)
     if (argc == 1 && strcmp(argv[0], "launched") == 0) {
         obey();
     }
+    if (argc != 2) {
+        fprintf(stderr, "harness TAG\n");
+        return 2;
+    }
     if (geteuid() != 0) {
         fprintf(stderr, "kernel: needs root: it gives threads other IDs and capabilities and mounts filesystems in a namespace of its own\n");
         return 2;
@@ -266,7 +271,7 @@ int main(int argc, char **argv)
         if (prctl(PR_SET_PDEATHSIG, SIGKILL) != 0) {
             give_up("PR_SET_PDEATHSIG");
         }
-        harness();
+        harness(argv[1]);
     }
     int status;
     if (inside == -1 || waitpid(inside, &status, 0) != inside) {

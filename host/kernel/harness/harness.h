@@ -60,7 +60,7 @@ int set_capabilities(uint64_t permitted, uint64_t inheritable, uint64_t effectiv
 void become(const struct state *start, uint32_t member);
 
 /* files.c */
-void prepare_places(void);
+void prepare_places(const char *tag);
 void make_image(const struct file *files, uint32_t count);
 void prepare_file(const struct file *file, char *path);
 

@@ -46,23 +46,23 @@ pub fn compare(known: Switches, plan: &Plan, seen: &Observation) -> Result<Vec<V
 
 // The library is asked about the state that was observed before the step, so that a departure does not follow the plan around.
 fn compare_step(known: Switches, before: &Thread, step: &Step, observed: &Outcome) -> Result<Verdict, Fault> {
-    if before.credentials.securebits > SECBITS_OF_THE_PAPER {
-        return Ok(Verdict::NoSheet);
-    }
-    let predicted = prediction::outcome(before, step);
+    let has_sheet = before.credentials.securebits <= SECBITS_OF_THE_PAPER;
+    let library = has_sheet.then(|| prediction::outcome(before, step));
     let fault = |what, model| {
-        let outcomes = vec![("library", predicted), ("kernel", *observed), ("model", model)];
+        let said = library.map(|outcome| ("library", outcome));
+        let outcomes = said.into_iter().chain([("kernel", *observed), ("model", model)]).collect();
         Err(Fault { what, place: None, outcomes })
     };
-    let paper = perform(Switches::NONE, before, step);
-    if !paper.agrees(&predicted) {
-        return fault("the model with every switch off is not what the library says", paper);
-    }
     let kernel = perform(known, before, step);
     if kernel != *observed {
         return fault("what the kernel did is not explained", kernel);
     }
-    if observed.agrees(&predicted) {
+    let Some(library) = library else { return Ok(Verdict::NoSheet) };
+    let paper = perform(Switches::NONE, before, step);
+    if !paper.agrees(&library) {
+        return fault("the model with every switch off is not what the library says", paper);
+    }
+    if observed.agrees(&library) {
         return Ok(Verdict::Agreed);
     }
     Ok(Verdict::Explained(explanation(known, before, step, observed)))
@@ -70,8 +70,8 @@ fn compare_step(known: Switches, before: &Thread, step: &Step, observed: &Outcom
 
 /// The fewest switches, in the sense that none can be spared, with which the model gives what was observed.
 fn explanation(known: Switches, before: &Thread, step: &Step, observed: &Outcome) -> Switches {
-    ALL.iter().fold(known, |kept, row| {
-        let fewer = kept.without(row.0);
+    ALL.into_iter().fold(known, |kept, departure| {
+        let fewer = kept.without(departure);
         if perform(fewer, before, step).agrees(observed) {
             fewer
         } else {

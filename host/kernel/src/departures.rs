@@ -1,5 +1,5 @@
-//! The named departures: where the kernel is known to do something else than the paper says. Each is a switch of the model in `launching` and
-//! `calls`: with all switches off the model is the paper, with all on it is the kernel. docs/KERNEL.md has each rule in full.
+//! The named departures: where the kernel is known to do something else than the paper says. Each is a switch of the model in `launching`,
+//! `attribute` and `calls`: with all switches off the model is the paper, with all on it is the kernel. docs/KERNEL.md has each rule in full.
 
 /// One departure of the kernel from the paper.
 #[derive(Clone, Copy, Debug, PartialEq, Eq)]
@@ -7,6 +7,7 @@
 pub enum Departure {
     SetUserIdToOwnId,
     SetGroupIdToOwnGroup,
+    SetGroupIdToMemberGroup,
     FilesystemGroupApart,
     NoNewPrivsReadsAttribute,
     NoNewPrivsCutsGain,
@@ -33,38 +34,65 @@ pub enum Departure {
 
 use Departure::*;
 
-/// Every departure with its name and what the kernel does, in the order of the paper's sections.
-pub const ALL: [(Departure, &str, &str); 24] = [
-    (SetUserIdToOwnId, "set-user-id-to-own-id", "a set-user-ID bit whose owner is the effective ID already leaves the ambient set"),
-    (SetGroupIdToOwnGroup, "set-group-id-to-own-group", "a set-group-ID bit for a group that the thread is in leaves the ambient set"),
-    (FilesystemGroupApart, "filesystem-group-apart", "a thread not in its own effective group counts as changing its IDs in every launch"),
-    (NoNewPrivsReadsAttribute, "no-new-privs-reads-attribute", "the attribute counts under no-new-privs"),
-    (NoNewPrivsCutsGain, "no-new-privs-cuts-gain", "under no-new-privs an attribute gives only what was permitted before"),
-    (NoNewPrivsCutsRoot, "no-new-privs-cuts-root", "under no-new-privs root is given only what was permitted before"),
-    (NoNewPrivsResetsEffectiveId, "no-new-privs-resets-effective-id", "where there is a gain to cut, no-new-privs sets the effective ID to the real one"),
-    (TracedHonoursSetId, "traced-honours-set-id", "set-ID bits count in a traced launch"),
-    (TracedReadsAttribute, "traced-reads-attribute", "the attribute counts in a traced launch"),
-    (TracedCutsGain, "traced-cuts-gain", "without SYS_PTRACE in the tracer an attribute gives only what was permitted before"),
-    (TracedCutsRoot, "traced-cuts-root", "without SYS_PTRACE in the tracer root is given only what was permitted before"),
-    (TracedResetsEffectiveId, "traced-resets-effective-id", "where there is a gain to cut or an ID changes, and the thread has no SETUID, the effective ID becomes the real one"),
-    (AttributeHighBitsMasked, "attribute-bits-above-40-masked", "an attribute's bits above 40 are dropped"),
-    (AttributeOtherBitsIgnored, "attribute-other-bits-ignored", "other bits of an attribute's first word are ignored"),
-    (AttributeVersion3Honoured, "attribute-version-3", "a version 3 attribute of root ID 0 counts as version 2 does"),
-    (AttributeVersion3OtherRoot, "attribute-version-3-other-root", "a version 3 attribute of another root ID counts as none attached"),
-    (AttributeWithoutBytes, "attribute-without-bytes", "an attribute that is attached and has no bytes is unreadable"),
-    (CapsetHighBitsMasked, "capset-bits-above-40-masked", "capset drops bits above 40"),
-    (BoundingDropAsksFirst, "bounding-drop-asks-first", "without SETPCAP a drop of a number above 40 is refused with 1"),
-    (SecurebitsOfPrograms, "securebits-100-to-fff", "the kernel has four more securebits, and setting them needs no SETPCAP"),
-    (SecurebitsUnknown, "securebits-above-fff", "securebits that the kernel does not have are refused with 1"),
-    (WideIdCut, "wide-id-cut", "of an ID's 64 bits the kernel takes the low 32"),
-    (UnusedOperandIgnored, "unused-operand-ignored", "an operand that the call does not use is not looked at"),
-    (SetresuidWithoutChange, "setresuid-without-change", "setresuid that changes none of its three IDs leaves the filesystem ID"),
+/// Every departure, in the order of the paper's sections.
+pub const ALL: [Departure; 25] = [
+    SetUserIdToOwnId,
+    SetGroupIdToOwnGroup,
+    SetGroupIdToMemberGroup,
+    FilesystemGroupApart,
+    NoNewPrivsReadsAttribute,
+    NoNewPrivsCutsGain,
+    NoNewPrivsCutsRoot,
+    NoNewPrivsResetsEffectiveId,
+    TracedHonoursSetId,
+    TracedReadsAttribute,
+    TracedCutsGain,
+    TracedCutsRoot,
+    TracedResetsEffectiveId,
+    AttributeHighBitsMasked,
+    AttributeOtherBitsIgnored,
+    AttributeVersion3Honoured,
+    AttributeVersion3OtherRoot,
+    AttributeWithoutBytes,
+    CapsetHighBitsMasked,
+    BoundingDropAsksFirst,
+    SecurebitsOfPrograms,
+    SecurebitsUnknown,
+    WideIdCut,
+    UnusedOperandIgnored,
+    SetresuidWithoutChange,
 ];
 
 impl Departure {
-    /// The departure's name.
+    /// The departure's name, as docs/KERNEL.md has it.
     pub fn name(self) -> &'static str {
-        ALL[self as usize].1
+        match self {
+            SetUserIdToOwnId => "set-user-id-to-own-id",
+            SetGroupIdToOwnGroup => "set-group-id-to-own-group",
+            SetGroupIdToMemberGroup => "set-group-id-to-member-group",
+            FilesystemGroupApart => "filesystem-group-apart",
+            NoNewPrivsReadsAttribute => "no-new-privs-reads-attribute",
+            NoNewPrivsCutsGain => "no-new-privs-cuts-gain",
+            NoNewPrivsCutsRoot => "no-new-privs-cuts-root",
+            NoNewPrivsResetsEffectiveId => "no-new-privs-resets-effective-id",
+            TracedHonoursSetId => "traced-honours-set-id",
+            TracedReadsAttribute => "traced-reads-attribute",
+            TracedCutsGain => "traced-cuts-gain",
+            TracedCutsRoot => "traced-cuts-root",
+            TracedResetsEffectiveId => "traced-resets-effective-id",
+            AttributeHighBitsMasked => "attribute-bits-above-40-masked",
+            AttributeOtherBitsIgnored => "attribute-other-bits-ignored",
+            AttributeVersion3Honoured => "attribute-version-3",
+            AttributeVersion3OtherRoot => "attribute-version-3-other-root",
+            AttributeWithoutBytes => "attribute-without-bytes",
+            CapsetHighBitsMasked => "capset-bits-above-40-masked",
+            BoundingDropAsksFirst => "bounding-drop-asks-first",
+            SecurebitsOfPrograms => "securebits-100-to-fff",
+            SecurebitsUnknown => "securebits-above-fff",
+            WideIdCut => "wide-id-cut",
+            UnusedOperandIgnored => "unused-operand-ignored",
+            SetresuidWithoutChange => "setresuid-without-change",
+        }
     }
 }
 
@@ -90,12 +118,12 @@ impl Switches {
 
     /// The same with the named departure switched off, or nothing where none has that name.
     pub fn without_named(self, name: &str) -> Option<Switches> {
-        ALL.iter().find(|row| row.1 == name).map(|row| self.without(row.0))
+        ALL.iter().find(|departure| departure.name() == name).map(|&departure| self.without(departure))
     }
 
     /// The departures that are switched on.
-    pub fn names(self) -> impl Iterator<Item = Departure> {
-        ALL.iter().map(|row| row.0).filter(move |&departure| self.on(departure))
+    pub fn departures(self) -> impl Iterator<Item = Departure> {
+        ALL.into_iter().filter(move |&departure| self.on(departure))
     }
 }
 
@@ -105,10 +133,10 @@ mod tests {
 
     #[test]
     fn every_departure_stands_at_its_place() {
-        for (place, (departure, name, _)) in ALL.iter().enumerate() {
-            assert_eq!(*departure as usize, place, "{name}");
+        for (place, departure) in ALL.into_iter().enumerate() {
+            assert_eq!(departure as usize, place, "{}", departure.name());
         }
-        assert_eq!(Switches::EVERY.names().count(), ALL.len());
-        assert_eq!(Switches::NONE.names().count(), 0);
+        assert!(Switches::EVERY.departures().eq(ALL));
+        assert_eq!(Switches::NONE.departures().count(), 0);
     }
 }

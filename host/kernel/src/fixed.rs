@@ -1,5 +1,5 @@
-//! Plans that are run whatever the seed: the paper's cases 1 to 13 ("On the bench"), points that it leaves to the reader (docs/DECISIONS.md, 23), every
-//! value of the securebits, and the example plans.
+//! Plans that are run whatever the seed: the paper's cases 1 to 13 ("On the bench"), points that it leaves to the reader (docs/DECISIONS.md, 23),
+//! every value of the securebits, and the example plans.
 
 use crate::attribute::version_2;
 use crate::credentials::*;
@@ -60,7 +60,7 @@ pub fn cases() -> Vec<Plan> {
     ]
 }
 
-/// The points of decision 23, each as one plan.
+/// The points of decision 23 in which the kernel does what was decided, each as one plan. For the others see `witnesses`.
 pub fn points() -> Vec<Plan> {
     let user = Credentials { uids: Ids::all(USER), bounding: FULL, ..Credentials::default() };
     let real_root = Credentials { uids: Ids { real: ROOT, ..Ids::all(USER) }, ..user };
@@ -70,7 +70,6 @@ pub fn points() -> Vec<Plan> {
     let launch = |owner: u32, flags: u64, attribute: Vec<u8>| vec![Step::launch(owner, flags, &attribute)];
     let (leave, given) = (u64::from(LEAVE), u64::from(USER));
     vec![
-        plan("set-user-ID bit of the effective ID", ambient, launch(USER, SET_USER_ID, Vec::new())),
         plan("real ID 0 alone, bit off", real_root, launch(ROOT, 0, version_2(NET_RAW, 0, false))),
         plan("real ID 0 alone, bit on", real_root, launch(ROOT, 0, version_2(NET_RAW, 0, true))),
         plan("effective ID 0 alone, attached", effective_root, launch(ROOT, 0, version_2(NET_RAW, 0, true))),
@@ -87,9 +86,7 @@ pub fn points() -> Vec<Plan> {
         ),
         plan("the old securebits", user, vec![Step::with(SET_SECUREBITS, 0, 0, 0)]),
         plan("setreuid, nothing given", apart, vec![Step::with(SETREUID, leave, leave, 0)]),
-        plan("setresuid, nothing given", apart, vec![Step::with(SETRESUID, leave, leave, leave)]),
         plan("setreuid, the old real ID", apart, vec![Step::with(SETREUID, given, leave, 0)]),
-        plan("an unused operand that elsewhere leaves an ID", user, vec![Step::with(SETUID, given, leave, 0)]),
     ]
 }
 
@@ -148,7 +145,7 @@ fn parse(text: &str) -> Option<(Credentials, Vec<Step>)> {
     Some((start, steps))
 }
 
-/// Cuts a plan's start to what the machine has, and gives its launches groups. Says whether the start had to be cut.
+/// Cuts a plan's start to what the machine has, and gives its launches groups where they have none. Says whether the start had to be cut.
 pub fn fit(plan: &mut Plan, permitted: u64, bounding: u64) -> bool {
     let start = &mut plan.start.credentials;
     let before = *start;
@@ -157,7 +154,7 @@ pub fn fit(plan: &mut Plan, permitted: u64, bounding: u64) -> bool {
     start.permitted &= permitted;
     start.effective &= start.permitted;
     start.ambient &= start.permitted & start.inheritable;
-    for (place, step) in plan.steps.iter_mut().enumerate() {
+    for (place, step) in plan.steps.iter_mut().enumerate().filter(|(_, step)| step.setting.group == 0) {
         step.setting.group = Step::fresh_group(place);
     }
     before != plan.start.credentials

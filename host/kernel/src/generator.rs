@@ -1,5 +1,5 @@
-//! Random plans, biased so that calls are done and refused about equally often. Operands are chosen about what the thread holds at that step, which the
-//! model of the kernel says.
+//! Random plans, biased so that calls are done and refused about equally often. Operands are chosen about what the thread holds at that step,
+//! which the model of the kernel says.
 
 use crate::attribute::{version_2, version_3};
 use crate::calls::perform;

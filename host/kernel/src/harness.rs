@@ -27,9 +27,9 @@ pub struct Observation {
 }
 
 impl Harness {
-    /// Starts the program at `path`. The error says why it did not start or that it ended.
-    pub fn new(path: &str) -> io::Result<Harness> {
-        let mut child = Command::new(path).stdin(Stdio::piped()).stdout(Stdio::piped()).spawn()?;
+    /// Starts the program at `path`, with `tag` for the name of its mounts. The error says why it did not start or that it ended.
+    pub fn new(path: &str, tag: &str) -> io::Result<Harness> {
+        let mut child = Command::new(path).arg(tag).stdin(Stdio::piped()).stdout(Stdio::piped()).spawn()?;
         let (Some(input), Some(output)) = (child.stdin.take(), child.stdout.take()) else {
             unreachable!("both are pipes")
         };

@@ -1,4 +1,5 @@
-//! The files of the ext4 image: attributes that setxattr(2) refuses, each with an owner. chown would take the attribute away, so owner and group are fixed.
+//! The files of the ext4 image: attributes that setxattr(2) refuses, each with an owner. chown would take the attribute away, so owner and group
+//! are fixed.
 
 use crate::attribute::{from_words, is_settable};
 use crate::step::{hex, Plan, Step, EXECVE};
@@ -73,11 +74,7 @@ impl Image {
             OWNERS.into_iter().for_each(|owner| image.add(owner, &attribute));
         }
         for step in plans.iter().flat_map(|plan| &plan.steps) {
-            if step.call == EXECVE
-                && step.not_run().is_none()
-                && !step.attribute.is_empty()
-                && !is_settable(&step.attribute)
-            {
+            if needs_image(step) {
                 image.add(step.a as u32, &step.attribute);
             }
         }
@@ -108,8 +105,10 @@ impl Image {
 
     /// The same launch with a file of the image, where it needs one.
     pub fn furnish(&self, step: &mut Step) {
-        let needs = step.call == EXECVE && !step.attribute.is_empty() && !is_settable(&step.attribute);
-        if let (true, Some(number)) = (needs, self.number(step.a as u32, &step.attribute)) {
+        if !needs_image(step) {
+            return;
+        }
+        if let Some(number) = self.number(step.a as u32, &step.attribute) {
             let tracer = step.setting.tracer;
             *step = self.launch(number, step.b);
             step.setting.tracer = tracer;
@@ -124,6 +123,11 @@ impl Image {
         }
         text
     }
+}
+
+fn needs_image(step: &Step) -> bool {
+    let is_odd = !step.attribute.is_empty() && !is_settable(&step.attribute);
+    step.call == EXECVE && step.not_run().is_none() && (is_odd || step.setting.attached_without_bytes)
 }
 
 /// An attribute's length and bytes, as the harness reads them.

@@ -100,9 +100,11 @@ fn follow(ids: &mut Ids) {
     ids.filesystem = ids.effective;
 }
 
-// "Launching, d" counts a set-ID bit also where it changes nothing.
+// "Launching, d" counts a set-ID bit also where the kernel sees no change.
 fn counts_unchanged(on: Switches, before: &Thread, step: &Step, set_id: u64) -> bool {
     let own_id = set_id & SET_USER_ID != 0 && step.a as u32 == before.credentials.uids.effective;
-    let own_group = set_id & SET_GROUP_ID != 0 && before.is_in_group(step.setting.group);
-    own_id && !on.on(SetUserIdToOwnId) || own_group && !on.on(SetGroupIdToOwnGroup)
+    let known_group = set_id & SET_GROUP_ID != 0 && before.is_in_group(step.setting.group);
+    let by_group =
+        if step.setting.group == before.gids.effective { SetGroupIdToOwnGroup } else { SetGroupIdToMemberGroup };
+    own_id && !on.on(SetUserIdToOwnId) || known_group && !on.on(by_group)
 }

@@ -2,9 +2,9 @@
 //!
 //!     kernel HARNESS EXAMPLES [--count N] [--seed N] [--verbose] [--without DEPARTURE]
 //!
-//! HARNESS is the C program of `harness/`, EXAMPLES a directory of plans. Needs root. `--verbose` names every difference; `--without` takes a departure
-//! away, so that the run has to fail. Status 1: a step is not explained, a known departure was never seen, or something is left on the machine. Status 2: it
-//! cannot be run here.
+//! HARNESS is the C program of `harness/`, EXAMPLES a directory of plans. Needs root. `--verbose` names every difference; `--without` takes a
+//! departure away, so that the run has to fail. Status 1: a step is not explained, a known departure was never seen, or something is left on the
+//! machine. Status 2: it cannot be run here.
 
 mod attribute;
 mod calls;
@@ -23,19 +23,21 @@ mod step;
 mod tally;
 #[cfg(test)]
 mod tests;
+mod witnesses;
 
 use comparison::{compare, Fault, Verdict};
-use departures::Switches;
+use departures::{Departure, Switches};
 use generator::Generator;
 use harness::Harness;
 use image::Image;
 use random::Random;
-use remains::Remains;
+use remains::remains;
 use step::Plan;
 use tally::Tally;
+use witnesses::witnesses;
 
 use std::path::Path;
-use std::process::ExitCode;
+use std::process::{self, ExitCode};
 use std::{env, fs, io};
 
 const USAGE: &str = "kernel HARNESS EXAMPLES [--count N] [--seed N] [--verbose] [--without DEPARTURE]";
@@ -86,8 +88,8 @@ fn main() -> ExitCode {
         );
         return ExitCode::from(2);
     }
-    let before = Remains::now();
-    let tally = match run(&options) {
+    let tag = format!("urrezkalu-kernel-{}", process::id());
+    let tally = match run(&options, &tag) {
         Ok(tally) => tally,
         Err(error) => {
             eprintln!("kernel: {error}");
@@ -95,22 +97,22 @@ fn main() -> ExitCode {
         }
     };
     print!("{tally}");
-    let nothing_left = before.are_again();
-    println!("\nleft behind: {}", if nothing_left { "nothing" } else { "mounts or loop devices are not as they were" });
+    let remains = remains(&tag);
+    println!("\nleft behind: {}", if remains.is_empty() { "nothing".to_owned() } else { remains.join(", ") });
     let never_seen: Vec<&str> = tally.never_seen().collect();
     never_seen.iter().for_each(|name| println!("FAILED: {name} was never seen"));
-    ExitCode::from(u8::from(tally.unexplained != 0 || !never_seen.is_empty() || !nothing_left))
+    ExitCode::from(u8::from(tally.unexplained != 0 || !never_seen.is_empty() || !remains.is_empty()))
 }
 
 /// Runs the fixed plans and then the random ones, and counts them.
-fn run(options: &Options) -> io::Result<Tally> {
+fn run(options: &Options, tag: &str) -> io::Result<Tally> {
     let mut tally = Tally::default();
     let (examples, none) = fixed::examples(Path::new(&options.examples))?;
     (0..none).for_each(|_| tally.not_run("an example that is no plan or has no valid start"));
-    let mut fixed: Vec<Plan> =
-        [fixed::cases(), fixed::points(), fixed::securebits(), examples].into_iter().flatten().collect();
+    let lists = [fixed::cases(), fixed::points(), witnesses(), fixed::securebits(), examples];
+    let mut fixed: Vec<Plan> = lists.into_iter().flatten().collect();
 
-    let mut harness = Harness::new(&options.harness)?;
+    let mut harness = Harness::new(&options.harness, tag)?;
     let (permitted, bounding) = (harness.permitted, harness.bounding);
     println!("Linux {}, permitted {permitted:016x}, bounding {bounding:016x}", about("osrelease"));
     println!("{} fixed plans, {} random plans of seed {}\n", fixed.len(), options.count, options.seed);
@@ -162,7 +164,7 @@ fn run_plan(options: &Options, harness: &mut Harness, mut plan: Plan, tally: &mu
 fn print_explained(plan: &Plan, verdicts: &[Verdict]) {
     for (place, verdict) in verdicts.iter().enumerate() {
         if let Verdict::Explained(switches) = verdict {
-            let names: Vec<&str> = switches.names().map(|departure| departure.name()).collect();
+            let names: Vec<&str> = switches.departures().map(Departure::name).collect();
             println!("{}, step {}: {}", plan.name, place + 1, names.join(", "));
         }
     }

@@ -1,39 +1,31 @@
-//! What a run could leave on the machine: mounts and loop devices. Files it makes none outside its own mounts, and its processes end with the harness.
+//! What a run could leave on the machine: mounts and loop devices, which carry the run's tag. It makes no file outside its own mounts, and its
+//! processes end with the harness.
 
+use std::path::Path;
 use std::time::Duration;
 use std::{fs, thread};
 
-/// The mounts and the loop devices in use.
-#[derive(Debug, PartialEq, Eq)]
-pub struct Remains {
-    mounts: Vec<String>,
-    loops: Vec<String>,
+/// The mounts and loop devices that carry the tag. The kernel unmounts what a namespace had a moment after its last process ended, so they are looked
+/// for until there are none, for up to five seconds.
+pub fn remains(tag: &str) -> Vec<String> {
+    for _ in 0..50 {
+        if found(tag).is_empty() {
+            return Vec::new();
+        }
+        thread::sleep(Duration::from_millis(100));
+    }
+    found(tag)
 }
 
-impl Remains {
-    /// What is there now.
-    pub fn now() -> Remains {
-        let lines =
-            |name: &str| fs::read_to_string(name).unwrap_or_default().lines().map(str::to_owned).collect::<Vec<_>>();
-        let mut loops: Vec<String> = fs::read_dir("/sys/block")
-            .into_iter()
-            .flatten()
-            .flatten()
-            .filter(|entry| entry.path().join("loop/backing_file").exists())
-            .map(|entry| entry.file_name().to_string_lossy().into_owned())
-            .collect();
-        loops.sort();
-        Remains { mounts: lines("/proc/self/mountinfo"), loops }
-    }
+fn found(tag: &str) -> Vec<String> {
+    let mounts = files("/proc", "mountinfo");
+    let loops = files("/sys/block", "loop/backing_file");
+    mounts.into_iter().chain(loops).filter(|(_, text)| text.contains(tag)).map(|(name, _)| name).collect()
+}
 
-    /// Whether everything is again as it was here. The kernel unmounts what a namespace had a moment after its last process ended.
-    pub fn are_again(&self) -> bool {
-        for _ in 0..50 {
-            if Remains::now() == *self {
-                return true;
-            }
-            thread::sleep(Duration::from_millis(100));
-        }
-        false
-    }
+// The file of that name in each directory of a directory, as far as there is one, with its text.
+fn files(directory: &str, name: &str) -> Vec<(String, String)> {
+    let entries = fs::read_dir(Path::new(directory)).into_iter().flatten().flatten();
+    let read = |path: std::path::PathBuf| Some((path.display().to_string(), fs::read_to_string(path).ok()?));
+    entries.filter_map(|entry| read(entry.path().join(name))).collect()
 }

@@ -38,7 +38,10 @@ impl Tally {
         match verdict {
             Verdict::Agreed => self.agreed += 1,
             Verdict::Explained(switches) => self.explain(switches),
-            Verdict::NoSheet => return self.not_run("a step from securebits above ff, which have no sheet"),
+            Verdict::NoSheet => {
+                return self
+                    .not_run("a step from securebits above ff, which have no sheet: compared with the model alone")
+            }
         }
         self.steps += 1;
         let [all, done, differ] = self.by_call.entry(step.call).or_default();
@@ -53,7 +56,7 @@ impl Tally {
 
     fn explain(&mut self, switches: Switches) {
         self.explained += 1;
-        switches.names().for_each(|departure| self.by_departure[departure as usize] += 1);
+        switches.departures().for_each(|departure| self.by_departure[departure as usize] += 1);
     }
 
     /// Counts what is not run, by its reason.
@@ -63,7 +66,7 @@ impl Tally {
 
     /// The departures that were never seen: one that is claimed has to show.
     pub fn never_seen(&self) -> impl Iterator<Item = &'static str> + '_ {
-        ALL.iter().zip(&self.by_departure).filter(|(_, &count)| count == 0).map(|(row, _)| row.1)
+        ALL.iter().zip(&self.by_departure).filter(|(_, &count)| count == 0).map(|(departure, _)| departure.name())
     }
 }
 
@@ -82,11 +85,14 @@ impl fmt::Display for Tally {
         for (flags, count) in &self.by_flags {
             write!(f, " {flags}: {count}")?;
         }
-        writeln!(f, "\n\ndepartures of the kernel from the paper, by the steps that they help to explain")?;
-        for (row, count) in ALL.iter().zip(&self.by_departure) {
-            writeln!(f, "{count:>8}  {}: {}", row.1, row.2)?;
+        writeln!(
+            f,
+            "\n\ndepartures of the kernel from the paper (docs/KERNEL.md), with the steps that they help to explain"
+        )?;
+        for (departure, count) in ALL.iter().zip(&self.by_departure) {
+            writeln!(f, "{count:>8}  {}", departure.name())?;
         }
-        writeln!(f, "\nnot run")?;
+        writeln!(f, "\nnot run, or not compared with the library")?;
         for (reason, count) in &self.not_run {
             writeln!(f, "{count:>8}  {reason}")?;
         }

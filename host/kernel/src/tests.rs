@@ -38,11 +38,11 @@ fn every_switch_changes_something() {
     let mut changed = [false; ALL.len()];
     for_each_step(8, |thread, step| {
         let kernel = perform(Switches::EVERY, thread, step);
-        for (departure, _, _) in ALL {
+        for departure in ALL {
             changed[departure as usize] |= !perform(Switches::EVERY.without(departure), thread, step).agrees(&kernel);
         }
     });
-    for (departure, name, _) in ALL {
-        assert!(changed[departure as usize], "{name}");
+    for departure in ALL {
+        assert!(changed[departure as usize], "{}", departure.name());
     }
 }
