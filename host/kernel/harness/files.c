@@ -112,24 +112,35 @@ static void write_commands(const struct file *files, uint32_t count)
     fclose(commands);
 }
 
-/* Attaches the image to a loop device that lets go of it when it is unmounted, and mounts it. */
+/* Attaches the image to a free loop device that lets go of it when it is unmounted. Another process may be faster to take the free one. */
+static int attach_image(char *device, size_t size)
+{
+    int control = open("/dev/loop-control", O_RDWR | O_CLOEXEC), backing = open(image, O_RDWR | O_CLOEXEC), loop = -1;
+    struct loop_config configuration = {.fd = (uint32_t)backing, .info.lo_flags = LO_FLAGS_AUTOCLEAR};
+    if (control == -1 || backing == -1) {
+        give_up("/dev/loop-control");
+    }
+    do {
+        if (loop != -1) {
+            close(loop);
+        }
+        snprintf(device, size, "/dev/loop%d", ioctl(control, LOOP_CTL_GET_FREE));
+        loop = open(device, O_RDWR | O_CLOEXEC);
+    } while (loop != -1 && ioctl(loop, LOOP_CONFIGURE, &configuration) != 0 && errno == EBUSY);
+    close(control);
+    close(backing);
+    return loop;
+}
+
+/* A loop device that could not be attached cannot be mounted either. */
 static void mount_image(void)
 {
     char device[LONGEST_PATH];
-    int control = open("/dev/loop-control", O_RDWR | O_CLOEXEC);
-    int number = control == -1 ? -1 : ioctl(control, LOOP_CTL_GET_FREE);
-    snprintf(device, sizeof device, "/dev/loop%d", number);
-    struct loop_config configuration = {.fd = (uint32_t)open(image, O_RDWR | O_CLOEXEC), .info.lo_flags = LO_FLAGS_AUTOCLEAR};
-    int loop = open(device, O_RDWR | O_CLOEXEC);
-    if (number == -1 || loop == -1 || ioctl(loop, LOOP_CONFIGURE, &configuration) != 0) {
+    int loop = attach_image(device, sizeof device);
+    if (loop == -1 || mount(device, PLACE "/image", "ext4", 0, NULL) != 0) {
         give_up(device);
     }
-    if (mount(device, PLACE "/image", "ext4", 0, NULL) != 0) {
-        give_up("mount of the image");
-    }
     close(loop);
-    close((int)configuration.fd);
-    close(control);
     mount_nosuid(PLACE "/image", PLACE "/image-nosuid");
 }
 

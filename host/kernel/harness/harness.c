@@ -71,7 +71,10 @@ static void read_image(void)
     if (scanf(" image %" SCNx32, &count) != 1) {
         malformed("the image");
     }
-    struct file *files = calloc(count + 1, sizeof *files);
+    struct file *files = calloc((size_t)count + 1, sizeof *files);
+    if (files == NULL) {
+        give_up("the image");
+    }
     for (uint32_t i = 0; i < count; i++) {
         if (scanf("%" SCNx32 " %" SCNx32, &files[i].owner, &files[i].group) != 2) {
             malformed("a file of the image");

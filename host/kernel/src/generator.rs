@@ -34,11 +34,16 @@ impl Generator<'_> {
         let mut thread = start;
         let mut steps = Vec::new();
         for place in 0..1 + self.random.below(LONGEST) {
-            // Securebits above ff have no sheet, so nothing can be said of what follows.
-            if thread.credentials.securebits > SECBITS_OF_THE_PAPER {
+            // Securebits above ff have no sheet, and the library can say nothing of what follows: the plan ends soon.
+            let has_sheet = thread.credentials.securebits <= SECBITS_OF_THE_PAPER;
+            if !has_sheet && self.random.chance(30) {
                 break;
             }
-            let step = self.step(&thread, place as usize);
+            let step = if has_sheet {
+                self.step(&thread, place as usize)
+            } else {
+                Step::with(SET_SECUREBITS, self.securebits(&thread.credentials), 0, 0)
+            };
             if step.not_run().is_none() {
                 thread = perform(Switches::EVERY, &thread, &step).after;
             }
@@ -239,11 +244,11 @@ impl Generator<'_> {
     fn securebits(&mut self, old: &Credentials) -> u64 {
         let present = u64::from(old.securebits);
         match self.random.below(10) {
-            0 => present | self.random.below(16) << 8,
-            1 => self.random.pick(&[0x100, 0x1000, 0xfff, 1 << 32, u64::MAX]) | present,
-            2 => self.random.below(256),
-            3 => present,
-            4..=6 => present ^ 1 << self.random.below(8),
+            0 | 1 => present ^ self.random.below(16) << 8,
+            2 => self.random.pick(&[0x100, 0x1000, 0xfff, 1 << 32, u64::MAX]) | present,
+            3 => self.random.below(256),
+            4 => present,
+            5..=7 => present ^ 1 << self.random.below(8),
             // Only flags that are not locked, and no lock taken back.
             _ => present ^ (self.random.below(256) & 0x55 & !(present >> 1)) | self.random.below(256) & 0xaa,
         }

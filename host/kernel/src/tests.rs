@@ -1,7 +1,7 @@
 //! The model without a machine: with every switch off it is the proved library, and each switch changes something.
 
 use crate::calls::perform;
-use crate::credentials::{Thread, FULL};
+use crate::credentials::{Thread, FULL, SECBITS_OF_THE_PAPER};
 use crate::departures::{Switches, ALL};
 use crate::generator::Generator;
 use crate::image::Image;
@@ -11,7 +11,7 @@ use crate::step::{Plan, Step};
 
 const PLANS: u64 = 20_000;
 
-// Every step of many random plans, also those that no machine can be asked, with the thread before it.
+// Every step of many random plans that begins with a sheet, also those that no machine can be asked, with the thread before it.
 fn for_each_step(seed: u64, mut look: impl FnMut(&Thread, &Step)) {
     let image = Image::new(&[]);
     let mut generator = Generator { random: Random::new(seed), image: &image, permitted: FULL, bounding: FULL };
@@ -19,7 +19,9 @@ fn for_each_step(seed: u64, mut look: impl FnMut(&Thread, &Step)) {
         let Plan { start, steps, .. } = generator.plan(String::new());
         let mut thread = start;
         for step in &steps {
-            look(&thread, step);
+            if thread.credentials.securebits <= SECBITS_OF_THE_PAPER {
+                look(&thread, step);
+            }
             thread = perform(Switches::EVERY, &thread, step).after;
         }
     }
