@@ -135,3 +135,16 @@ pub fn attribute_field(attribute: &[u8]) -> String {
     let digits = if attribute.is_empty() { "-".to_owned() } else { hex(attribute) };
     format!("{:x} {digits}", attribute.len())
 }
+
+#[cfg(test)]
+mod tests {
+    use super::*;
+
+    #[test]
+    fn every_attribute_of_the_list_is_another_and_needs_the_image() {
+        let list = attributes();
+        assert_eq!(list.len(), 49);
+        assert!(list.iter().all(|attribute| !is_settable(attribute) && attribute.len() <= 24));
+        assert_eq!(Image::new(&[]).files.len(), OWNERS.len() * list.len());
+    }
+}
