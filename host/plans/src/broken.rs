@@ -1,0 +1,319 @@
+//! Texts that are no plans, or hardly ever: a written plan with one fault put into it.
+//!
+//! For most kinds of fault the line of refusal 70 is known when the fault is made. For a byte changed anywhere and the like it is not.
+
+mod line;
+
+use crate::random::Random;
+use crate::{starts, with_steps, Flaw, Generated, Kind, Plan, MOST_STEPS};
+use line::{Form, SHEET_LINES, STEP_LINES};
+
+/// The line of refusal 70 for a 257th step.
+const LINE_OF_STEP_257: usize = SHEET_LINES + STEP_LINES * MOST_STEPS + 1;
+
+/// What is wrong with a text.
+#[derive(Clone, Copy, Debug, PartialEq, Eq)]
+pub enum Fault {
+    /// A byte that is no digit in a value.
+    NotADigit,
+    /// An upper-case hex digit.
+    UpperCase,
+    /// A decimal number with zeros before it.
+    LeadingZero,
+    /// A number with a sign before it.
+    Sign,
+    /// A number that is too large, such as one that is right in its low 32 or 64 bits.
+    TooLarge,
+    /// No value at all where one has to be.
+    NoDigits,
+    /// A hex value that lacks a digit.
+    DigitLost,
+    /// A hex value with a digit more.
+    DigitAdded,
+    /// An attribute of more than 48 digits.
+    LongAttribute,
+    /// A blank or a tab before or after a value.
+    Blank,
+    /// Another key, or none.
+    WrongKey,
+    /// A carriage return before the newline.
+    CarriageReturn,
+    /// A zero byte in a line.
+    Nul,
+    /// A byte above 127 in a line.
+    NotAscii,
+    /// A line with nothing in it.
+    BlankLine,
+    /// A line left out.
+    LineLost,
+    /// A line written twice.
+    LineDoubled,
+    /// A line exchanged with the next.
+    LinesExchanged,
+    /// The text ends within a line.
+    CutInLine,
+    /// The text ends between two lines of the sheet or of a step.
+    CutBetweenLines,
+    /// Text after the last line.
+    Appended,
+    /// More than 256 steps.
+    TooManySteps,
+    /// One byte is another.
+    ByteChanged,
+    /// One byte more.
+    ByteInserted,
+    /// One byte less.
+    ByteDeleted,
+    /// Several bytes are others.
+    BytesChanged,
+    /// Bytes of every kind, from none to megabytes.
+    Noise,
+    /// The same after a sheet.
+    SheetThenNoise,
+}
+
+impl Fault {
+    /// All of them.
+    pub const ALL: [Fault; 28] = [
+        Fault::NotADigit,
+        Fault::UpperCase,
+        Fault::LeadingZero,
+        Fault::Sign,
+        Fault::TooLarge,
+        Fault::NoDigits,
+        Fault::DigitLost,
+        Fault::DigitAdded,
+        Fault::LongAttribute,
+        Fault::Blank,
+        Fault::WrongKey,
+        Fault::CarriageReturn,
+        Fault::Nul,
+        Fault::NotAscii,
+        Fault::BlankLine,
+        Fault::LineLost,
+        Fault::LineDoubled,
+        Fault::LinesExchanged,
+        Fault::CutInLine,
+        Fault::CutBetweenLines,
+        Fault::Appended,
+        Fault::TooManySteps,
+        Fault::ByteChanged,
+        Fault::ByteInserted,
+        Fault::ByteDeleted,
+        Fault::BytesChanged,
+        Fault::Noise,
+        Fault::SheetThenNoise,
+    ];
+}
+
+/// A text with some fault.
+pub(crate) fn broken(random: &mut Random) -> Generated {
+    let fault = if random.one_in(12) { Fault::CutInLine } else { random.pick(&Fault::ALL) };
+    let valid = !random.one_in(6);
+    let plan = plan_to_break(random, fault, valid);
+    let (text, line) = broken_by(random, fault, plan.text());
+    let line = line.map(|line| line as u32);
+    Generated { text, kind: Kind::Broken { fault, line, valid } }
+}
+
+// A plan to put a fault into, now and then of the most steps. Its start may be invalid, for the fault comes before that.
+fn plan_to_break(random: &mut Random, fault: Fault, valid: bool) -> Plan {
+    let start = if valid {
+        starts::valid(random)
+    } else {
+        let flaw = random.pick(&Flaw::ALL);
+        starts::flawed(random, flaw)
+    };
+    let count = match fault {
+        Fault::TooManySteps => random.pick(&[257, 257, 258, 300]),
+        Fault::Appended if random.one_in(4) => MOST_STEPS,
+        _ if random.one_in(30) => random.pick(&[MOST_STEPS - 1, MOST_STEPS]),
+        _ => random.below(6),
+    };
+    with_steps(random, start, count)
+}
+
+// Puts the fault into a plan's text. Gives the text, and the line of the fault if it is known.
+fn broken_by(random: &mut Random, fault: Fault, text: Vec<u8>) -> (Vec<u8>, Option<usize>) {
+    match fault {
+        Fault::BlankLine | Fault::LineLost | Fault::LineDoubled | Fault::LinesExchanged => {
+            let (text, line) = lines_moved(random, fault, &text);
+            (text, Some(line))
+        }
+        Fault::CutInLine | Fault::CutBetweenLines => {
+            let (text, line) = cut(random, fault, text);
+            (text, Some(line))
+        }
+        Fault::Appended => {
+            let line = line_count(&text) + 1;
+            (appended(random, text), Some(line))
+        }
+        Fault::TooManySteps => (text, Some(LINE_OF_STEP_257)),
+        Fault::ByteChanged | Fault::ByteInserted | Fault::ByteDeleted | Fault::BytesChanged => {
+            (bytes_changed(random, fault, text), None)
+        }
+        Fault::Noise => (noise(random), None),
+        Fault::SheetThenNoise => {
+            let end = line_ends(&text)[SHEET_LINES - 1];
+            ([&text[..end], &noise(random)].concat(), None)
+        }
+        _ => {
+            let (text, line) = fault_in_a_line(random, fault, &text);
+            (text, Some(line))
+        }
+    }
+}
+
+// Where each line ends, just after its newline.
+fn line_ends(text: &[u8]) -> Vec<usize> {
+    text.iter().enumerate().filter(|(_, byte)| **byte == b'\n').map(|(at, _)| at + 1).collect()
+}
+
+fn line_count(text: &[u8]) -> usize {
+    line_ends(text).len()
+}
+
+fn split(text: &[u8]) -> Vec<&[u8]> {
+    text.split_inclusive(|byte| *byte == b'\n').collect()
+}
+
+// A line, those of the sheet as often as those of the steps.
+fn any_line(random: &mut Random, count: usize) -> usize {
+    if random.one_in(2) {
+        random.below(SHEET_LINES)
+    } else {
+        random.below(count)
+    }
+}
+
+// Changes one line whose value has a form that the fault can be in.
+fn fault_in_a_line(random: &mut Random, fault: Fault, text: &[u8]) -> (Vec<u8>, usize) {
+    let lines = split(text);
+    let at = loop {
+        let at = any_line(random, lines.len());
+        if line::can_have(Form::of_line(at), fault) {
+            break at;
+        }
+        // A sheet has no attribute; a plan of no steps is given one.
+        if fault == Fault::LongAttribute && lines.len() == SHEET_LINES {
+            let step = b"call=1\na=0000000000000000\nb=0000000000000000\nc=0000000000000000\nattr=\n";
+            return fault_in_a_line(random, fault, &[text, step].concat());
+        }
+    };
+    let changed = line::changed(random, fault, Form::of_line(at), lines[at]);
+    ([&lines[..at].concat(), &changed[..], &lines[at + 1..].concat()].concat(), at + 1)
+}
+
+fn lines_moved(random: &mut Random, fault: Fault, text: &[u8]) -> (Vec<u8>, usize) {
+    let mut lines = split(text);
+    let at = any_line(random, lines.len());
+    match fault {
+        Fault::BlankLine => {
+            lines.insert(at, b"\n");
+            (lines.concat(), at + 1)
+        }
+        Fault::LineLost => {
+            lines.remove(at);
+            (lines.concat(), at + 1)
+        }
+        Fault::LineDoubled => {
+            lines.insert(at, lines[at]);
+            (lines.concat(), at + 2)
+        }
+        _ => {
+            let at = at.min(lines.len() - 2);
+            lines.swap(at, at + 1);
+            (lines.concat(), at + 1)
+        }
+    }
+}
+
+fn cut(random: &mut Random, fault: Fault, mut text: Vec<u8>) -> (Vec<u8>, usize) {
+    let ends = line_ends(&text);
+    let at = any_line(random, ends.len());
+    let start = if at == 0 { 0 } else { ends[at - 1] };
+    let is_between_parts = at >= SHEET_LINES && (at - SHEET_LINES).is_multiple_of(STEP_LINES);
+    if fault == Fault::CutBetweenLines && !is_between_parts {
+        text.truncate(start);
+    } else {
+        // Just before the newline a third of the time: the line is right but for its end.
+        let within = ends[at] - start - 1;
+        let kept = if random.one_in(3) { within } else { 1 + random.below(within) };
+        text.truncate(start + kept);
+    }
+    (text, at + 1)
+}
+
+fn appended(random: &mut Random, mut text: Vec<u8>) -> Vec<u8> {
+    let pieces: [&[u8]; 9] = [b"\n", b" ", b"\0", b"x", b"call=", b"call=1", b"attr=\n", b"nnp=0\n", b"# end\n"];
+    text.extend_from_slice(random.pick(&pieces));
+    text
+}
+
+fn bytes_changed(random: &mut Random, fault: Fault, mut text: Vec<u8>) -> Vec<u8> {
+    let at = random.below(text.len());
+    match fault {
+        Fault::ByteChanged => text[at] = byte(random),
+        Fault::ByteInserted => text.insert(at, byte(random)),
+        Fault::ByteDeleted => {
+            text.remove(at);
+        }
+        _ => {
+            for _ in 0..2 + random.below(4) {
+                let at = random.below(text.len());
+                text[at] = byte(random);
+            }
+        }
+    }
+    text
+}
+
+// Any byte, or one that texts have.
+fn byte(random: &mut Random) -> u8 {
+    if random.one_in(2) {
+        random.byte()
+    } else {
+        random.pick(b"0123456789abcdef=\n")
+    }
+}
+
+// Few are long; the longest have some megabytes.
+fn noise(random: &mut Random) -> Vec<u8> {
+    let most = match random.below(200) {
+        0 => 4_000_000,
+        1..=9 => 100_000,
+        10..=99 => 2_000,
+        _ => 40,
+    };
+    let count = random.below(most);
+    random.bytes(count)
+}
+
+#[cfg(test)]
+mod tests {
+    use super::*;
+    use urrezkalu::{run_plan, Outcome};
+
+    #[test]
+    fn every_fault_breaks_the_text_where_it_says() {
+        for fault in Fault::ALL {
+            for seed in 0..300 {
+                let mut random = Random::new(seed);
+                let whole = plan_to_break(&mut random, fault, seed % 2 == 0).text();
+                let (text, line) = broken_by(&mut random, fault, whole.clone());
+                let Some(line) = line else { continue };
+                assert!(fault == Fault::TooManySteps || text != whole, "{fault:?}, seed {seed}: nothing is changed");
+                let outcome = run_plan(&text, &mut []);
+                assert_eq!(outcome, Outcome::Malformed { line: line as u32 }, "{fault:?}, seed {seed}");
+            }
+        }
+    }
+
+    #[test]
+    fn a_byte_inserted_or_deleted_changes_the_length() {
+        let mut random = Random::new(4);
+        let whole = plan_to_break(&mut random, Fault::ByteInserted, true).text();
+        assert_eq!(bytes_changed(&mut random, Fault::ByteInserted, whole.clone()).len(), whole.len() + 1);
+        assert_eq!(bytes_changed(&mut random, Fault::ByteDeleted, whole.clone()).len(), whole.len() - 1);
+    }
+}

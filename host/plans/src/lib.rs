@@ -1,0 +1,168 @@
+//! Plans and broken plan texts, each made from one seed.
+//!
+//! [`generated`] gives the text of any kind: plans that run, with the calls and operands that the rules tell apart; plans whose start is
+//! invalid; texts that are no plans. [`measured`] gives plans of a fixed number of steps, to take times by. The same seed gives the same text.
+
+#![deny(missing_docs)]
+
+mod attributes;
+mod broken;
+mod random;
+mod sets;
+mod starts;
+mod steps;
+mod text;
+
+pub use broken::Fault;
+pub use starts::Flaw;
+pub use text::{write_result, write_sheet, write_step};
+
+use random::Random;
+use second::{Credentials, Step};
+use steps::Maker;
+
+/// The most steps that a plan may have.
+pub const MOST_STEPS: usize = 256;
+
+/// Credentials to start from, and steps.
+#[derive(Clone, Debug, PartialEq, Eq)]
+pub struct Plan {
+    /// The sheet.
+    pub start: Credentials,
+    /// The steps.
+    pub steps: Vec<Step>,
+}
+
+/// A text for the runner, and what is known of it beforehand.
+#[derive(Clone, Debug, PartialEq, Eq)]
+pub struct Generated {
+    /// The text.
+    pub text: Vec<u8>,
+    /// What it is.
+    pub kind: Kind,
+}
+
+/// What a generated text is.
+#[derive(Clone, Debug, PartialEq, Eq)]
+pub enum Kind {
+    /// The written form of a plan whose start is valid.
+    Runs(Plan),
+    /// The written form of a plan whose start has just that flaw.
+    Flawed(Plan, Flaw),
+    /// A text with one fault.
+    Broken {
+        /// Which fault.
+        fault: Fault,
+        /// The line that it is in, where the kind of fault says so.
+        line: Option<u32>,
+        /// Whether the start of the plan that was broken was valid.
+        valid: bool,
+    },
+}
+
+/// The text of that seed.
+pub fn generated(seed: u64) -> Generated {
+    let mut random = Random::new(seed);
+    match random.below(20) {
+        0..=11 => {
+            let plan = plan(&mut random);
+            Generated { text: plan.text(), kind: Kind::Runs(plan) }
+        }
+        12 | 13 => {
+            let flaw = random.pick(&Flaw::ALL);
+            let plan = flawed(&mut random, flaw);
+            Generated { text: plan.text(), kind: Kind::Flawed(plan, flaw) }
+        }
+        _ => broken::broken(&mut random),
+    }
+}
+
+/// A plan of `steps` steps that runs, with all the calls and none of their operands out of range. At most 256 steps make a plan.
+pub fn measured(seed: u64, steps: usize) -> Plan {
+    let mut random = Random::new(seed);
+    let start = starts::valid(&mut random);
+    let mut maker = Maker::new(&start);
+    let steps = (0..steps).map(|_| maker.decent(&mut random)).collect();
+    Plan { start, steps }
+}
+
+// A plan that runs.
+fn plan(random: &mut Random) -> Plan {
+    let start = starts::valid(random);
+    let count = step_count(random);
+    with_steps(random, start, count)
+}
+
+// A plan with one flaw in its start.
+fn flawed(random: &mut Random, flaw: Flaw) -> Plan {
+    let start = starts::flawed(random, flaw);
+    let count = step_count(random).min(20);
+    with_steps(random, start, count)
+}
+
+fn with_steps(random: &mut Random, start: Credentials, count: usize) -> Plan {
+    let mut maker = Maker::new(&start);
+    let steps = (0..count).map(|_| maker.any(random)).collect();
+    Plan { start, steps }
+}
+
+// Mostly a few steps, for much of what the start allows is gone after them; now and then none, one, or the most.
+fn step_count(random: &mut Random) -> usize {
+    match random.below(100) {
+        0..=4 => 0,
+        5..=19 => 1,
+        20..=49 => 2 + random.below(6),
+        50..=97 => 2 + random.below(19),
+        98 => 21 + random.below(MOST_STEPS - 21),
+        _ => random.pick(&[MOST_STEPS - 1, MOST_STEPS]),
+    }
+}
+
+#[cfg(test)]
+mod tests {
+    use super::*;
+    use urrezkalu::{run_plan, Outcome, LONGEST_REPORT};
+
+    #[test]
+    fn the_same_seed_gives_the_same_text() {
+        for seed in 0..200 {
+            assert_eq!(generated(seed), generated(seed));
+        }
+        assert_ne!(generated(1), generated(2));
+    }
+
+    #[test]
+    fn what_should_run_runs_and_what_is_flawed_is_invalid() {
+        let mut buffer = [0; LONGEST_REPORT];
+        for seed in 0..3000 {
+            let Generated { text, kind } = generated(seed);
+            let outcome = run_plan(&text, &mut buffer);
+            match kind {
+                Kind::Runs(_) => assert!(matches!(outcome, Outcome::Report { .. }), "seed {seed}: {outcome}"),
+                Kind::Flawed(..) => assert_eq!(outcome, Outcome::Invalid, "seed {seed}"),
+                Kind::Broken { .. } => {}
+            }
+        }
+    }
+
+    #[test]
+    fn each_flaw_makes_a_start_invalid() {
+        for flaw in Flaw::ALL {
+            for seed in 0..100 {
+                let plan = flawed(&mut Random::new(seed), flaw);
+                assert_eq!(run_plan(&plan.text(), &mut []), Outcome::Invalid, "{flaw:?}, seed {seed}");
+            }
+        }
+    }
+
+    #[test]
+    fn measured_plans_run_and_have_the_steps_asked_for() {
+        let mut buffer = [0; LONGEST_REPORT];
+        for steps in [0, 1, 16, MOST_STEPS] {
+            let plan = measured(7, steps);
+            assert_eq!(plan.steps.len(), steps);
+            assert!(plan.steps.iter().all(|step| (1..=18).contains(&step.call)));
+            assert!(matches!(run_plan(&plan.text(), &mut buffer), Outcome::Report { .. }));
+        }
+    }
+}
