@@ -1,0 +1,64 @@
+//! The command line.
+
+/// How the program is called.
+pub const USAGE: &str = "\
+compare [--count N] [--seed S] [--threads T] [--table]    compares the proved library and the second program on N plans
+compare [--count N] [--seed S] --stream FILE              writes the texts of N plans to FILE";
+
+/// What the command line asks for.
+#[derive(Debug, PartialEq, Eq)]
+pub struct Arguments {
+    /// How many plans.
+    pub count: u64,
+    /// The seed of the first plan; each next has the next.
+    pub seed: u64,
+    /// How many threads share them.
+    pub threads: u64,
+    /// Whether every branch is printed.
+    pub table: bool,
+    /// Where the texts are written, instead of comparing.
+    pub stream: Option<String>,
+}
+
+/// Reads the command line, or says what is wrong with it.
+pub fn read(mut words: impl Iterator<Item = String>) -> Result<Arguments, String> {
+    let mut arguments = Arguments { count: 20_000, seed: 1, threads: 2, table: false, stream: None };
+    while let Some(word) = words.next() {
+        match word.as_str() {
+            "--count" => arguments.count = number(&word, words.next())?,
+            "--seed" => arguments.seed = number(&word, words.next())?,
+            "--threads" => arguments.threads = number(&word, words.next())?.max(1),
+            "--table" => arguments.table = true,
+            "--stream" => arguments.stream = Some(words.next().ok_or("--stream needs a file's name")?),
+            _ => return Err(format!("{word} is not understood")),
+        }
+    }
+    Ok(arguments)
+}
+
+fn number(word: &str, value: Option<String>) -> Result<u64, String> {
+    let value = value.ok_or(format!("{word} needs a number"))?;
+    value.parse().map_err(|_| format!("{word} needs a number, and {value} is none"))
+}
+
+#[cfg(test)]
+mod tests {
+    use super::*;
+
+    fn read_words(words: &str) -> Result<Arguments, String> {
+        read(words.split_whitespace().map(str::to_string))
+    }
+
+    #[test]
+    fn numbers_are_read() {
+        let arguments = read_words("--seed 7 --count 3 --table").unwrap();
+        assert_eq!((arguments.seed, arguments.count, arguments.table), (7, 3, true));
+    }
+
+    #[test]
+    fn what_is_wrong_is_told() {
+        assert_eq!(read_words("--count many").unwrap_err(), "--count needs a number, and many is none");
+        assert_eq!(read_words("--quick").unwrap_err(), "--quick is not understood");
+        assert_eq!(read_words("--stream").unwrap_err(), "--stream needs a file's name");
+    }
+}

@@ -1,0 +1,116 @@
+//! "Launching", a to f.
+
+mod rows;
+
+use super::attribute::{read, File, Reading};
+use super::moment::{is_within, NOROOT};
+use second::{Credentials, Step};
+
+pub use rows::rows;
+
+// The flags of call 1.
+const SET_USER_ID: u64 = 1;
+const SET_GROUP_ID: u64 = 2;
+const NOSUID: u64 = 4;
+const TRACED: u64 = 8;
+const NO_FILE_CAPS: u64 = 16;
+
+/// Why set-ID bits or an attribute are ignored.
+#[derive(Clone, Copy, PartialEq, Eq)]
+pub enum Cause {
+    NoNewPrivs,
+    Nosuid,
+    Traced,
+    NoFileCaps,
+}
+
+/// What a launch goes by: told from the credentials before it and its operands.
+pub struct Launch {
+    causes: Vec<Cause>,
+    set_user_id: bool,
+    set_group_id: bool,
+    owner: u32,
+    reading: Reading,
+    /// The attribute that is attached and not ignored.
+    pub file: Option<File>,
+    /// Whether its own permitted set is not all granted, by f.
+    falls_short: bool,
+    real: u32,
+    /// The effective ID after b.
+    effective: u32,
+    noroot: bool,
+}
+
+impl Launch {
+    /// The launch of a step with call 1 and operands in range.
+    pub fn of(before: &Credentials, step: &Step) -> Launch {
+        let flags = [
+            (Cause::NoNewPrivs, before.nnp),
+            (Cause::Nosuid, step.b & NOSUID != 0),
+            (Cause::Traced, step.b & TRACED != 0),
+            (Cause::NoFileCaps, step.b & NO_FILE_CAPS != 0),
+        ];
+        let mut launch = Launch {
+            causes: flags.into_iter().filter(|(_, given)| *given).map(|(cause, _)| cause).collect(),
+            set_user_id: step.b & SET_USER_ID != 0,
+            set_group_id: step.b & SET_GROUP_ID != 0,
+            owner: step.a as u32,
+            reading: read(&step.attr),
+            file: None,
+            falls_short: false,
+            real: before.ruid,
+            effective: before.euid,
+            noroot: before.securebits & NOROOT != 0,
+        };
+        if let Reading::File(file) = launch.reading {
+            launch.falls_short = !is_within(file.permitted, own_gain(before, &file));
+            launch.file = (!launch.attribute_is_ignored()).then_some(file);
+        }
+        if launch.set_user_id && !launch.set_ids_are_ignored() {
+            launch.effective = launch.owner;
+        }
+        launch
+    }
+
+    /// a: by three of the causes.
+    fn set_ids_are_ignored(&self) -> bool {
+        self.causes.iter().any(|cause| *cause != Cause::NoFileCaps)
+    }
+
+    /// a: by any of the causes.
+    pub fn attribute_is_ignored(&self) -> bool {
+        !self.causes.is_empty()
+    }
+
+    fn is_only_by(&self, cause: Cause) -> bool {
+        self.causes == [cause]
+    }
+
+    /// f: its own bit is on and its own permitted set is not all granted.
+    fn is_refused(&self) -> bool {
+        self.file.is_some_and(|file| file.effective) && self.falls_short
+    }
+
+    /// 60 comes before that.
+    fn is_unreadable(&self) -> bool {
+        self.reading == Reading::Unreadable && !self.attribute_is_ignored()
+    }
+
+    fn is_done(&self) -> bool {
+        !self.is_unreadable() && !self.is_refused()
+    }
+
+    fn bit(&self) -> bool {
+        self.file.is_some_and(|file| file.effective)
+    }
+
+    /// d: by attribute or by a set-ID bit, neither being ignored.
+    fn is_privileged(&self) -> bool {
+        self.file.is_some() || ((self.set_user_id || self.set_group_id) && !self.set_ids_are_ignored())
+    }
+}
+
+/// What the file's own sets grant, not counting what c makes of them.
+fn own_gain(before: &Credentials, file: &File) -> u64 {
+    (before.inheritable & file.inheritable) | (file.permitted & before.bounding)
+}

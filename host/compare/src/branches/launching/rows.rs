@@ -1,0 +1,386 @@
+//! The rows of "Launching", letter by letter.
+
+use super::{own_gain, Cause, Launch, Reading};
+use crate::branches::moment::{is_within, KEEP_CAPS, NOROOT};
+use crate::branches::{Moment, Row};
+
+const KEEP_CAPS_LOCK: u8 = 2 * KEEP_CAPS;
+const NOROOT_LOCK: u8 = 2 * NOROOT;
+
+/// All of them.
+pub fn rows() -> Vec<Row<Moment>> {
+    let parts = [ignored(), ids(), root(), ambient(), sets(), missing()];
+    parts.into_iter().flatten().collect()
+}
+
+type Part = Vec<Row<Moment>>;
+
+// A launch that is done.
+fn done(
+    name: impl Into<String>,
+    when: impl Fn(&Moment, &Launch) -> bool + Send + Sync + 'static,
+    then: impl Fn(&Moment, &Launch) -> bool + Send + Sync + 'static,
+) -> Row<Moment> {
+    let applies = move |m: &Moment| m.launch.as_ref().is_some_and(|l| l.is_done() && when(m, l));
+    let holds = move |m: &Moment| m.is_done() && m.launch.as_ref().is_some_and(|l| then(m, l));
+    Row::new(format!("Launching, {}", name.into()), applies, holds)
+}
+
+// A launch that is refused with 1.
+fn refused(name: &str, when: impl Fn(&Moment, &Launch) -> bool + Send + Sync + 'static) -> Row<Moment> {
+    let applies = move |m: &Moment| m.launch.as_ref().is_some_and(|l| l.is_refused() && when(m, l));
+    Row::new(format!("Launching, {name}"), applies, |m: &Moment| m.is_refused(1))
+}
+
+// a: what is ignored, and that it is not read.
+fn ignored() -> Part {
+    let mut rows = Vec::new();
+    let causes = [
+        (Cause::NoNewPrivs, "no-new-privs"),
+        (Cause::Nosuid, "nosuid"),
+        (Cause::Traced, "traced"),
+        (Cause::NoFileCaps, "no_file_caps"),
+    ];
+    for (cause, name) in causes {
+        if cause != Cause::NoFileCaps {
+            rows.push(done(
+                format!("a: set-user-ID ignored by {name}"),
+                move |m, l| l.is_only_by(cause) && l.set_user_id && l.owner != m.before.euid,
+                |m, _| m.answer.after.euid == m.before.euid,
+            ));
+            rows.push(done(
+                format!("a: set-group-ID ignored by {name}, ambient kept"),
+                move |m, l| l.is_only_by(cause) && l.set_group_id && !l.set_user_id && m.before.ambient != 0,
+                |m, _| m.answer.after.ambient == m.before.ambient,
+            ));
+        }
+        rows.push(done(
+            format!("a: attribute ignored by {name}, ambient kept"),
+            move |m, l| l.is_only_by(cause) && has_attribute_alone(l) && m.before.ambient != 0,
+            |m, _| m.answer.after.ambient == m.before.ambient,
+        ));
+        rows.push(done(
+            format!("a: attribute that f would refuse ignored by {name}"),
+            move |_, l| l.is_only_by(cause) && l.falls_short && own_bit(l),
+            |_, _| true,
+        ));
+        rows.push(done(
+            format!("a: unreadable attribute ignored by {name}"),
+            move |_, l| l.is_only_by(cause) && l.reading == Reading::Unreadable,
+            |_, _| true,
+        ));
+    }
+    rows.push(done(
+        "a: set-user-ID in force under no_file_caps",
+        |m, l| l.is_only_by(Cause::NoFileCaps) && l.set_user_id && l.owner != m.before.euid,
+        |m, l| m.answer.after.euid == l.owner,
+    ));
+    rows.push(done(
+        "a: set-group-ID in force under no_file_caps, ambient cleared",
+        |m, l| l.is_only_by(Cause::NoFileCaps) && l.set_group_id && m.before.ambient != 0,
+        |m, _| m.answer.after.ambient == 0,
+    ));
+    rows
+}
+
+fn has_attribute_alone(launch: &Launch) -> bool {
+    matches!(launch.reading, Reading::File(_)) && !launch.set_user_id && !launch.set_group_id
+}
+
+fn own_bit(launch: &Launch) -> bool {
+    matches!(launch.reading, Reading::File(file) if file.effective)
+}
+
+// b: the IDs, and that no ID-change rule runs.
+fn ids() -> Part {
+    vec![
+        done(
+            "b: set-user-ID in force, another owner",
+            |m, l| l.set_user_id && !l.set_ids_are_ignored() && l.owner != m.before.euid,
+            |m, l| {
+                let after = &m.answer.after;
+                [after.ruid, after.euid, after.suid, after.fsuid] == [m.before.ruid, l.owner, l.owner, l.owner]
+            },
+        ),
+        done(
+            "b: saved and filesystem IDs become the effective, without set-user-ID",
+            |m, l| !l.set_user_id && m.before.suid != m.before.euid && m.before.fsuid != m.before.euid,
+            |m, _| {
+                let after = &m.answer.after;
+                let euid = m.before.euid;
+                [after.ruid, after.euid, after.suid, after.fsuid] == [m.before.ruid, euid, euid, euid]
+            },
+        ),
+        done(
+            "b: set-group-ID changes no user ID",
+            |m, l| l.set_group_id && !l.set_user_id && !l.set_ids_are_ignored() && l.owner != m.before.euid,
+            |m, _| m.answer.after.euid == m.before.euid,
+        ),
+        done(
+            "b: effective from 0 to nonzero clears no E",
+            |m, l| {
+                m.before.euid == 0
+                    && l.effective != 0
+                    && l.file.is_some_and(|f| f.effective && own_gain(&m.before, &f) != 0)
+            },
+            |m, _| m.answer.after.effective != 0,
+        ),
+        done(
+            "b: effective from nonzero to 0 does not fill E",
+            |m, l| {
+                let gains = l.file.is_some_and(|file| own_gain(&m.before, &file) != 0);
+                m.before.euid != 0 && l.effective == 0 && l.real != 0 && gains && !l.bit()
+            },
+            |m, _| m.answer.after.effective == 0 && m.answer.after.permitted != 0,
+        ),
+        done(
+            "b: saved ID 0 lost, ambient kept",
+            |m, l| l.real != 0 && m.before.suid == 0 && l.effective != 0 && m.before.ambient != 0 && !l.is_privileged(),
+            |m, _| m.answer.after.ambient == m.before.ambient,
+        ),
+        done(
+            "b: filesystem ID 0 lost, E keeps what call 18 would take",
+            |m, l| l.effective != 0 && m.before.fsuid == 0 && m.before.ambient & 0x21f != 0 && !l.is_privileged(),
+            |m, _| is_within(m.before.ambient, m.answer.after.effective),
+        ),
+    ]
+}
+
+// What P is for a file whose sets count as full.
+fn full_gain(m: &Moment) -> u64 {
+    m.before.inheritable | m.before.bounding
+}
+
+fn gains_all_in_effect(m: &Moment, _: &Launch) -> bool {
+    m.answer.after.permitted == full_gain(m) && m.answer.after.effective == full_gain(m)
+}
+
+fn gains_all_not_in_effect(m: &Moment, _: &Launch) -> bool {
+    m.answer.after.permitted == full_gain(m) && m.answer.after.effective == m.answer.after.ambient
+}
+
+// The file's own sets and bit. A privileged file leaves no ambient set.
+fn gains_its_own(m: &Moment, l: &Launch) -> bool {
+    let Some(file) = l.file else { return false };
+    let gain = own_gain(&m.before, &file);
+    m.answer.after.permitted == gain && m.answer.after.effective == if file.effective { gain } else { 0 }
+}
+
+fn gains_ambient_alone(m: &Moment, _: &Launch) -> bool {
+    m.answer.after.permitted == m.answer.after.ambient && m.answer.after.effective == m.answer.after.ambient
+}
+
+// c: what root's file counts as.
+fn root() -> Part {
+    let real_alone = |l: &Launch| !l.noroot && l.real == 0 && l.effective != 0;
+    let effective_alone = |l: &Launch| !l.noroot && l.real != 0 && l.effective == 0;
+    let both = |l: &Launch| !l.noroot && l.real == 0 && l.effective == 0;
+    let neither = |l: &Launch| l.real != 0 && l.effective != 0;
+    vec![
+        done("c: real 0 alone, no attribute", move |_, l| real_alone(l) && l.file.is_none(), gains_all_not_in_effect),
+        done("c: real 0 alone, bit off", move |_, l| real_alone(l) && has_bit(l, false), gains_all_not_in_effect),
+        done("c: real 0 alone, bit on", move |_, l| real_alone(l) && has_bit(l, true), gains_all_in_effect),
+        done(
+            "c: real 0 alone, ambient kept in effect",
+            move |m, l| real_alone(l) && l.file.is_none() && !l.is_privileged() && m.before.ambient != 0,
+            |m, _| m.answer.after.effective == m.before.ambient,
+        ),
+        done(
+            "c: effective 0 alone, no attribute",
+            move |_, l| effective_alone(l) && l.file.is_none(),
+            gains_all_in_effect,
+        ),
+        done(
+            "c: effective 0 alone by set-user-ID, no attribute",
+            move |m, l| effective_alone(l) && l.file.is_none() && m.before.euid != 0,
+            gains_all_in_effect,
+        ),
+        done(
+            "c: effective 0 alone, attribute ignored is no exception",
+            move |_, l| effective_alone(l) && has_attribute_alone(l) && l.file.is_none(),
+            gains_all_in_effect,
+        ),
+        done("c: both 0, no attribute", move |_, l| both(l) && l.file.is_none(), gains_all_in_effect),
+        done("c: both 0, bit off", move |_, l| both(l) && has_bit(l, false), gains_all_in_effect),
+        done("c: both 0, bit on", move |_, l| both(l) && has_bit(l, true), gains_all_in_effect),
+        done(
+            "c: exception by set-user-ID, bit on",
+            move |m, l| effective_alone(l) && has_bit(l, true) && m.before.euid != 0,
+            gains_its_own,
+        ),
+        done(
+            "c: exception by set-user-ID, bit off",
+            move |m, l| effective_alone(l) && has_bit(l, false) && m.before.euid != 0,
+            gains_its_own,
+        ),
+        done(
+            "c: exception, effective 0 before",
+            move |m, l| effective_alone(l) && l.file.is_some() && m.before.euid == 0,
+            gains_its_own,
+        ),
+        done(
+            "c: exception, attribute of empty sets",
+            move |_, l| effective_alone(l) && l.file.is_some_and(|file| file.permitted | file.inheritable == 0),
+            |m, _| m.answer.after.permitted | m.answer.after.effective == 0,
+        ),
+        done(
+            "c: NOROOT set, a root ID, no attribute",
+            move |_, l| l.noroot && !neither(l) && l.file.is_none(),
+            gains_ambient_alone,
+        ),
+        done(
+            "c: NOROOT set, a root ID, attribute",
+            move |_, l| l.noroot && !neither(l) && l.file.is_some(),
+            gains_its_own,
+        ),
+        done(
+            "c: NOROOT locked clear is clear",
+            move |m, l| both(l) && m.secure(NOROOT_LOCK) && !m.secure(NOROOT),
+            gains_all_in_effect,
+        ),
+        done("c: no root ID, no attribute", move |_, l| neither(l) && l.file.is_none(), gains_ambient_alone),
+        done("c: no root ID, attribute", move |_, l| neither(l) && l.file.is_some(), gains_its_own),
+        done(
+            "c: real 0, effective by set-user-ID another",
+            move |m, l| real_alone(l) && m.before.euid == 0,
+            |m, _| m.answer.after.permitted == full_gain(m),
+        ),
+    ]
+}
+
+fn has_bit(launch: &Launch, on: bool) -> bool {
+    launch.file.is_some_and(|file| file.effective == on)
+}
+
+// d: which files are privileged, and the ambient set.
+fn ambient() -> Part {
+    let only_attribute = |l: &Launch| l.file.is_some() && !l.set_user_id && !l.set_group_id;
+    let cleared = |m: &Moment, _: &Launch| m.answer.after.ambient == 0;
+    let kept = |m: &Moment, _: &Launch| {
+        let ambient = m.before.ambient;
+        let after = &m.answer.after;
+        after.ambient == ambient && is_within(ambient, after.permitted) && is_within(ambient, after.effective)
+    };
+    let in_force = |l: &Launch| !l.set_ids_are_ignored() && l.file.is_none();
+    vec![
+        done("d: ambient cleared by an attribute", move |m, l| m.before.ambient != 0 && only_attribute(l), cleared),
+        done(
+            "d: ambient cleared by an attribute of empty sets, bit off",
+            move |m, l| {
+                let is_empty = |file: super::File| file.permitted | file.inheritable == 0 && !file.effective;
+                m.before.ambient != 0 && only_attribute(l) && l.file.is_some_and(is_empty)
+            },
+            cleared,
+        ),
+        done(
+            "d: ambient cleared by set-user-ID",
+            move |m, l| m.before.ambient != 0 && in_force(l) && l.set_user_id && !l.set_group_id,
+            cleared,
+        ),
+        done(
+            "d: ambient cleared by set-user-ID of the same owner",
+            move |m, l| m.before.ambient != 0 && in_force(l) && l.set_user_id && l.owner == m.before.euid,
+            cleared,
+        ),
+        done(
+            "d: ambient cleared by set-group-ID",
+            move |m, l| m.before.ambient != 0 && in_force(l) && l.set_group_id && !l.set_user_id,
+            cleared,
+        ),
+        done("d: ambient kept", move |m, l| m.before.ambient != 0 && !l.is_privileged(), kept),
+        done(
+            "d: ambient kept where the bounding set lacks it",
+            move |m, l| m.before.ambient & !m.before.bounding != 0 && !l.is_privileged(),
+            kept,
+        ),
+        done(
+            "d: ambient kept for root",
+            move |m, l| m.before.ambient != 0 && !l.is_privileged() && l.effective == 0,
+            kept,
+        ),
+    ]
+}
+
+// e: the new sets, and what stays.
+fn sets() -> Part {
+    let beyond =
+        |m: &Moment, l: &Launch| l.file.map_or(0, |f| m.before.inheritable & f.inheritable & !m.before.bounding);
+    vec![
+        done(
+            "e: file inheritable is not masked by B",
+            move |m, l| beyond(m, l) != 0,
+            move |m, l| is_within(beyond(m, l), m.answer.after.permitted),
+        ),
+        done(
+            "e: file permitted is masked by B",
+            |_, l| l.file.is_some() && l.falls_short && (l.noroot || l.real != 0),
+            |m, l| l.file.is_some_and(|file| !is_within(file.permitted, m.answer.after.permitted)),
+        ),
+        done(
+            "e: root's inheritable beyond B",
+            |m, l| !l.noroot && l.real == 0 && !is_within(m.before.inheritable, m.before.bounding),
+            |m, _| is_within(m.before.inheritable, m.answer.after.permitted),
+        ),
+        done(
+            "e: root's B masks",
+            |m, l| !l.noroot && l.real == 0 && full_gain(m) != 0x1ff_ffff_ffff,
+            |m, _| m.answer.after.permitted == full_gain(m),
+        ),
+        done(
+            "e: old P and E are lost",
+            |m, l| {
+                l.real != 0 && l.effective != 0 && m.before.permitted != 0 && m.before.ambient == 0 && l.file.is_none()
+            },
+            |m, _| m.answer.after.permitted | m.answer.after.effective == 0,
+        ),
+        done(
+            "e: I and B stay",
+            |m, _| m.before.inheritable != m.before.bounding,
+            |m, _| m.answer.after.inheritable == m.before.inheritable && m.answer.after.bounding == m.before.bounding,
+        ),
+        done(
+            "e: KEEP_CAPS cleared unlocked, others stay",
+            |m, _| m.secure(KEEP_CAPS) && !m.secure(KEEP_CAPS_LOCK),
+            |m, _| m.answer.after.securebits == m.before.securebits & !KEEP_CAPS,
+        ),
+        done(
+            "e: KEEP_CAPS cleared locked, others stay",
+            |m, _| m.secure(KEEP_CAPS) && m.secure(KEEP_CAPS_LOCK),
+            |m, _| m.answer.after.securebits == m.before.securebits & !KEEP_CAPS,
+        ),
+        done("e: no-new-privs stays set", |m, _| m.before.nnp, |m, _| m.answer.after.nnp),
+        done("e: no-new-privs stays clear", |m, _| !m.before.nnp, |m, _| !m.answer.after.nnp),
+    ]
+}
+
+// f: the launch that cannot give what the file asks for.
+fn missing() -> Part {
+    vec![
+        refused("f: refused, no root ID", |_, l| l.real != 0 && l.effective != 0),
+        refused("f: refused, both IDs 0", |_, l| !l.noroot && l.real == 0 && l.effective == 0),
+        refused("f: refused, real 0 alone", |_, l| !l.noroot && l.real == 0 && l.effective != 0),
+        refused("f: refused, effective 0 alone", |_, l| !l.noroot && l.real != 0 && l.effective == 0),
+        refused("f: refused, set-user-ID takes no effect", |m, l| l.effective != m.before.euid),
+        refused("f: refused, KEEP_CAPS stays", |m, _| m.secure(KEEP_CAPS)),
+        refused("f: refused though I has it", |m, l| {
+            l.file.is_some_and(|f| is_within(f.permitted, m.before.inheritable | m.before.bounding))
+        }),
+        refused("f: refused though the file's inheritable has it", |m, l| {
+            l.file.is_some_and(|f| is_within(f.permitted, f.inheritable | m.before.bounding))
+        }),
+        refused("f: refused though P has it", |m, l| {
+            l.file.is_some_and(|f| is_within(f.permitted, m.before.permitted | m.before.bounding))
+        }),
+        done("f: not refused, bit off", |_, l| l.falls_short && has_bit(l, false), |_, _| true),
+        done(
+            "f: not refused, I and the file's inheritable have what B lacks",
+            |m, l| l.file.is_some_and(|f| f.effective && !is_within(f.permitted, m.before.bounding)),
+            |m, l| l.file.is_some_and(|f| is_within(f.permitted, m.answer.after.permitted)),
+        ),
+        done(
+            "f: not refused, bit on and B has all",
+            |m, l| l.file.is_some_and(|f| f.effective && f.permitted != 0 && is_within(f.permitted, m.before.bounding)),
+            |m, l| l.file.is_some_and(|f| is_within(f.permitted, m.answer.after.effective)),
+        ),
+    ]
+}

@@ -1,0 +1,132 @@
+//! Runs generated plans through the proved library and the second program, and demands that they agree on code, line, length and every byte
+//! of the buffer.
+//!
+//! The first plan on which they differ is printed, and the program ends with 1. So it does if a run of at least 20,000 plans did not reach
+//! every branch of the rules. Wrong arguments end it with 2.
+
+mod arguments;
+mod branches;
+mod check;
+mod difference;
+mod stream;
+
+use arguments::Arguments;
+use branches::{Counts, Table};
+use check::Checker;
+use difference::Difference;
+use std::process::ExitCode;
+use std::sync::atomic::{AtomicU64, Ordering};
+use std::thread;
+
+/// With so many plans every branch has to be reached.
+const ENOUGH: u64 = 20_000;
+
+fn main() -> ExitCode {
+    let arguments = match arguments::read(std::env::args().skip(1)) {
+        Ok(arguments) => arguments,
+        Err(fault) => {
+            eprintln!("compare: {fault}\n{}", arguments::USAGE);
+            return ExitCode::from(2);
+        }
+    };
+    let succeeded = match &arguments.stream {
+        Some(name) => write_stream(name, &arguments),
+        None => compare(&arguments),
+    };
+    if succeeded {
+        ExitCode::SUCCESS
+    } else {
+        ExitCode::FAILURE
+    }
+}
+
+fn write_stream(name: &str, arguments: &Arguments) -> bool {
+    match stream::write(name, arguments.seed, arguments.count) {
+        Ok(written) => {
+            println!("compare: {} texts written to {name}, {} bytes", written.texts, written.bytes);
+            true
+        }
+        Err(fault) => {
+            eprintln!("compare: {name}: {fault}");
+            false
+        }
+    }
+}
+
+fn compare(arguments: &Arguments) -> bool {
+    let table = Table::new();
+    let first_difference = AtomicU64::new(u64::MAX);
+    let shares: Vec<Share> = thread::scope(|scope| {
+        let share = |thread| {
+            let (table, first_difference) = (&table, &first_difference);
+            scope.spawn(move || check_share(arguments, thread, table, first_difference))
+        };
+        let threads: Vec<_> = (0..arguments.threads).map(share).collect();
+        threads.into_iter().map(|thread| thread.join().expect("a thread that checks plans does not panic")).collect()
+    });
+    let mut counts = table.counts();
+    let mut runs = 0;
+    for share in &shares {
+        counts.add(&share.counts);
+        runs += share.runs;
+    }
+    let differences = shares.iter().filter_map(|share| share.difference.as_ref());
+    if let Some((number, difference)) = differences.min_by_key(|(number, _)| *number) {
+        println!("{}compare: found by plan {} of {}", difference.message(), number + 1, arguments.count);
+        return false;
+    }
+    println!(
+        "compare: {} plans from seed {}, {runs} runs of each program: no difference",
+        arguments.count, arguments.seed
+    );
+    report_branches(arguments, &table, &counts)
+}
+
+/// What one thread has found.
+struct Share {
+    counts: Counts,
+    runs: u64,
+    /// The first plan at fault among its own, and its number.
+    difference: Option<(u64, Box<Difference>)>,
+}
+
+// Checks every so many plans, up to the first at fault. Threads stop only past a fault that was found, so the first of all is found.
+fn check_share(arguments: &Arguments, thread: u64, table: &Table, first_difference: &AtomicU64) -> Share {
+    let mut checker = Checker::new(table);
+    let mut difference = None;
+    let mut number = thread;
+    while number < arguments.count.min(first_difference.load(Ordering::Relaxed)) {
+        if let Err(found) = checker.check(arguments.seed.wrapping_add(number)) {
+            first_difference.fetch_min(number, Ordering::Relaxed);
+            difference = Some((number, found));
+            break;
+        }
+        number += arguments.threads;
+    }
+    Share { counts: checker.counts, runs: checker.runs, difference }
+}
+
+// Says which branches were reached. True if all were, or if the run was too short to ask for them.
+fn report_branches(arguments: &Arguments, table: &Table, counts: &Counts) -> bool {
+    let counted = table.counted(counts);
+    if arguments.table {
+        for (name, count) in &counted {
+            println!("{count:>10}  {name}");
+        }
+    }
+    let missed: Vec<&str> = counted.iter().filter(|(_, count)| *count == 0).map(|(name, _)| *name).collect();
+    let reached = counted.len() - missed.len();
+    if missed.is_empty() {
+        let (name, count) = counted.iter().min_by_key(|(_, count)| *count).expect("the table has rows");
+        println!("compare: all {reached} branches reached; the rarest {count} times: {name}");
+        return true;
+    }
+    println!("compare: {reached} of {} branches reached", counted.len());
+    if arguments.count < ENOUGH {
+        return true;
+    }
+    for name in missed {
+        println!("compare: not reached: {name}");
+    }
+    false
+}
