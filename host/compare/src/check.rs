@@ -51,26 +51,29 @@ impl<'a> Checker<'a> {
         let length = length(outcome);
         let _ = self.agree(seed, text, scattered(seed) as usize % (length + 100))?;
         let one_short = if length > 0 { self.agree(seed, text, length - 1)? } else { no_room };
-        let _ = self.agree(seed, text, length)?;
-        Ok(Sight { generated, outcome, one_short, no_room })
+        let exact = self.agree(seed, text, length)?;
+        Ok(Sight { generated, outcome, exact, one_short, no_room })
     }
 
-    // Runs both in a buffer of that length; code, line, length and every byte of the buffer have to be the same.
+    // Runs both in a buffer of that length: code, line and length have to be the same, and every byte in the buffer and after it. The bytes
+    // past the report have to stay.
     fn agree(&mut self, seed: u64, text: &[u8], room: usize) -> Checked<Outcome> {
         self.runs += 1;
-        self.proved[..room].copy_from_slice(&self.pattern[..room]);
-        self.second[..room].copy_from_slice(&self.pattern[..room]);
+        self.proved.copy_from_slice(&self.pattern);
+        self.second.copy_from_slice(&self.pattern);
         let proved = urrezkalu::run_plan(text, &mut self.proved[..room]);
         let second = second::run_plan(text, &mut self.second[..room]);
-        let more = || both((proved, &self.proved[..room]), (second, &self.second[..room]));
-        if !is_same(proved, second) || self.proved[..room] != self.second[..room] {
-            let what = format!("the programs differ, with room for {room} bytes");
-            return Err(Box::new(Difference { seed, what, text: text.to_vec(), more: more() }));
+        let differ = |what: &str| {
+            let what = format!("{what}, with room for {room} bytes");
+            let more = both((proved, &self.proved), (second, &self.second));
+            Err(Box::new(Difference { seed, what, text: text.to_vec(), more }))
+        };
+        if !is_same(proved, second) || self.proved != self.second {
+            return differ("the programs differ");
         }
         let written = length(proved);
-        if self.proved[written..room] != self.pattern[written..room] {
-            let what = format!("bytes past the report have changed, with room for {room} bytes");
-            return Err(Box::new(Difference { seed, what, text: text.to_vec(), more: more() }));
+        if self.proved[written..] != self.pattern[written..] {
+            return differ("bytes past the report have changed");
         }
         Ok(proved)
     }
@@ -154,4 +157,40 @@ fn length(outcome: Outcome) -> usize {
 // A number that looks like any other, from a seed.
 fn scattered(seed: u64) -> u64 {
     seed.wrapping_add(1).wrapping_mul(0x9e37_79b9_7f4a_7c15) >> 33
+}
+
+#[cfg(test)]
+mod tests {
+    use super::*;
+
+    #[test]
+    fn the_first_plans_agree() {
+        let table = Table::new();
+        let mut checker = Checker::new(&table);
+        for seed in 0..400 {
+            if let Err(difference) = checker.check(seed) {
+                panic!("{}", difference.message());
+            }
+        }
+        assert!(checker.runs > 1200);
+        let counted = table.counted(&checker.counts);
+        assert!(counted.iter().filter(|(_, count)| *count > 0).count() > counted.len() / 2);
+    }
+
+    #[test]
+    fn outcomes_are_the_same_in_code_line_and_length() {
+        assert!(is_same(Outcome::Malformed { line: 3 }, second::Outcome::Malformed { line: 3 }));
+        assert!(!is_same(Outcome::Malformed { line: 3 }, second::Outcome::Malformed { line: 4 }));
+        assert!(!is_same(Outcome::Report { length: 3 }, second::Outcome::Report { length: 4 }));
+        assert!(!is_same(Outcome::Invalid, second::Outcome::NoRoom));
+    }
+
+    #[test]
+    fn a_row_that_does_not_hold_is_told_with_its_plan() {
+        let told = unexpected(7, b"ruid=0\n", "a row", "more".to_string()).message();
+        assert!(told.starts_with(
+            "compare: DIFFERENCE at seed 7: both programs agree, but not with the table of branches: a row"
+        ));
+        assert!(told.contains("compare --seed 7 --count 1"));
+    }
 }

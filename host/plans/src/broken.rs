@@ -2,109 +2,18 @@
 //!
 //! For most kinds of fault the line of refusal 70 is known when the fault is made. For a byte changed anywhere and the like it is not.
 
+mod fault;
 mod line;
 
+pub use fault::Fault;
+
 use crate::random::Random;
-use crate::{starts, with_steps, Flaw, Generated, Kind, Plan, MOST_STEPS};
+use crate::starts::{self, Flaw};
+use crate::{with_steps, Generated, Kind, Plan, MOST_STEPS};
 use line::{Form, SHEET_LINES, STEP_LINES};
 
 /// The line of refusal 70 for a 257th step.
 const LINE_OF_STEP_257: usize = SHEET_LINES + STEP_LINES * MOST_STEPS + 1;
-
-/// What is wrong with a text.
-#[derive(Clone, Copy, Debug, PartialEq, Eq)]
-pub enum Fault {
-    /// A byte that is no digit in a value.
-    NotADigit,
-    /// An upper-case hex digit.
-    UpperCase,
-    /// A decimal number with zeros before it.
-    LeadingZero,
-    /// A number with a sign before it.
-    Sign,
-    /// A number that is too large, such as one that is right in its low 32 or 64 bits.
-    TooLarge,
-    /// No value at all where one has to be.
-    NoDigits,
-    /// A hex value that lacks a digit.
-    DigitLost,
-    /// A hex value with a digit more.
-    DigitAdded,
-    /// An attribute of more than 48 digits.
-    LongAttribute,
-    /// A blank or a tab before or after a value.
-    Blank,
-    /// Another key, or none.
-    WrongKey,
-    /// A carriage return before the newline.
-    CarriageReturn,
-    /// A zero byte in a line.
-    Nul,
-    /// A byte above 127 in a line.
-    NotAscii,
-    /// A line with nothing in it.
-    BlankLine,
-    /// A line left out.
-    LineLost,
-    /// A line written twice.
-    LineDoubled,
-    /// A line exchanged with the next.
-    LinesExchanged,
-    /// The text ends within a line.
-    CutInLine,
-    /// The text ends between two lines of the sheet or of a step.
-    CutBetweenLines,
-    /// Text after the last line.
-    Appended,
-    /// More than 256 steps.
-    TooManySteps,
-    /// One byte is another.
-    ByteChanged,
-    /// One byte more.
-    ByteInserted,
-    /// One byte less.
-    ByteDeleted,
-    /// Several bytes are others.
-    BytesChanged,
-    /// Bytes of every kind, from none to megabytes.
-    Noise,
-    /// The same after a sheet.
-    SheetThenNoise,
-}
-
-impl Fault {
-    /// All of them.
-    pub const ALL: [Fault; 28] = [
-        Fault::NotADigit,
-        Fault::UpperCase,
-        Fault::LeadingZero,
-        Fault::Sign,
-        Fault::TooLarge,
-        Fault::NoDigits,
-        Fault::DigitLost,
-        Fault::DigitAdded,
-        Fault::LongAttribute,
-        Fault::Blank,
-        Fault::WrongKey,
-        Fault::CarriageReturn,
-        Fault::Nul,
-        Fault::NotAscii,
-        Fault::BlankLine,
-        Fault::LineLost,
-        Fault::LineDoubled,
-        Fault::LinesExchanged,
-        Fault::CutInLine,
-        Fault::CutBetweenLines,
-        Fault::Appended,
-        Fault::TooManySteps,
-        Fault::ByteChanged,
-        Fault::ByteInserted,
-        Fault::ByteDeleted,
-        Fault::BytesChanged,
-        Fault::Noise,
-        Fault::SheetThenNoise,
-    ];
-}
 
 /// A text with some fault.
 pub(crate) fn broken(random: &mut Random) -> Generated {
@@ -144,6 +53,8 @@ fn broken_by(random: &mut Random, fault: Fault, text: Vec<u8>) -> (Vec<u8>, Opti
             let (text, line) = cut(random, fault, text);
             (text, Some(line))
         }
+        Fault::LastNewlineLost => (text[..text.len() - 1].to_vec(), Some(line_count(&text))),
+        Fault::CarriageReturn if random.one_in(4) => (with_carriage_returns(&text), Some(1)),
         Fault::Appended => {
             let line = line_count(&text) + 1;
             (appended(random, text), Some(line))
@@ -179,10 +90,10 @@ fn split(text: &[u8]) -> Vec<&[u8]> {
 
 // A line, those of the sheet as often as those of the steps.
 fn any_line(random: &mut Random, count: usize) -> usize {
-    if random.one_in(2) {
+    if count == SHEET_LINES || random.one_in(2) {
         random.below(SHEET_LINES)
     } else {
-        random.below(count)
+        SHEET_LINES + random.below(count - SHEET_LINES)
     }
 }
 
@@ -202,6 +113,10 @@ fn fault_in_a_line(random: &mut Random, fault: Fault, text: &[u8]) -> (Vec<u8>, 
     };
     let changed = line::changed(random, fault, Form::of_line(at), lines[at]);
     ([&lines[..at].concat(), &changed[..], &lines[at + 1..].concat()].concat(), at + 1)
+}
+
+fn with_carriage_returns(text: &[u8]) -> Vec<u8> {
+    split(text).into_iter().flat_map(|line| [&line[..line.len() - 1], b"\r\n"].concat()).collect()
 }
 
 fn lines_moved(random: &mut Random, fault: Fault, text: &[u8]) -> (Vec<u8>, usize) {
@@ -277,12 +192,13 @@ fn byte(random: &mut Random) -> u8 {
     }
 }
 
-// Few are long; the longest have some megabytes.
+// Few are long, the longest having some megabytes; some are empty.
 fn noise(random: &mut Random) -> Vec<u8> {
     let most = match random.below(200) {
         0 => 4_000_000,
         1..=9 => 100_000,
         10..=99 => 2_000,
+        100..=109 => 1,
         _ => 40,
     };
     let count = random.below(most);

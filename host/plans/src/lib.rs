@@ -14,11 +14,11 @@ mod steps;
 mod text;
 
 pub use broken::Fault;
-pub use starts::Flaw;
 pub use text::{write_result, write_sheet, write_step};
 
 use random::Random;
 use second::{Credentials, Step};
+use starts::Flaw;
 use steps::Maker;
 
 /// The most steps that a plan may have.
@@ -47,8 +47,8 @@ pub struct Generated {
 pub enum Kind {
     /// The written form of a plan whose start is valid.
     Runs(Plan),
-    /// The written form of a plan whose start has just that flaw.
-    Flawed(Plan, Flaw),
+    /// The written form of a plan whose start is not valid.
+    Flawed(Plan),
     /// A text with one fault.
     Broken {
         /// Which fault.
@@ -71,7 +71,7 @@ pub fn generated(seed: u64) -> Generated {
         12 | 13 => {
             let flaw = random.pick(&Flaw::ALL);
             let plan = flawed(&mut random, flaw);
-            Generated { text: plan.text(), kind: Kind::Flawed(plan, flaw) }
+            Generated { text: plan.text(), kind: Kind::Flawed(plan) }
         }
         _ => broken::broken(&mut random),
     }
@@ -139,7 +139,7 @@ mod tests {
             let outcome = run_plan(&text, &mut buffer);
             match kind {
                 Kind::Runs(_) => assert!(matches!(outcome, Outcome::Report { .. }), "seed {seed}: {outcome}"),
-                Kind::Flawed(..) => assert_eq!(outcome, Outcome::Invalid, "seed {seed}"),
+                Kind::Flawed(_) => assert_eq!(outcome, Outcome::Invalid, "seed {seed}"),
                 Kind::Broken { .. } => {}
             }
         }
@@ -162,7 +162,9 @@ mod tests {
             let plan = measured(7, steps);
             assert_eq!(plan.steps.len(), steps);
             assert!(plan.steps.iter().all(|step| (1..=18).contains(&step.call)));
-            assert!(matches!(run_plan(&plan.text(), &mut buffer), Outcome::Report { .. }));
+            let Outcome::Report { length } = run_plan(&plan.text(), &mut buffer) else { panic!("it is refused") };
+            let report = std::str::from_utf8(&buffer[..length]).unwrap();
+            assert!(!report.contains("code=22\n"));
         }
     }
 }

@@ -10,7 +10,7 @@ pub(crate) const NO_ID: u32 = 4_294_967_295;
 
 /// One way in which credentials can be invalid ("What a thread carries").
 #[derive(Clone, Copy, Debug, PartialEq, Eq)]
-pub enum Flaw {
+pub(crate) enum Flaw {
     /// The effective set has a capability that the permitted set lacks.
     EffectiveOutsidePermitted,
     /// The ambient set has a capability that the permitted set lacks and the inheritable set has.
@@ -39,7 +39,7 @@ pub enum Flaw {
 
 impl Flaw {
     /// All of them.
-    pub const ALL: [Flaw; 12] = [
+    pub(crate) const ALL: [Flaw; 12] = [
         Flaw::EffectiveOutsidePermitted,
         Flaw::AmbientOutsidePermitted,
         Flaw::AmbientOutsideInheritable,

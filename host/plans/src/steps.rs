@@ -86,7 +86,7 @@ impl Maker {
             3 | 4 => 1,
             5 => 2,
             6 | 7 => random.pick(&[4, 5, 8, 9, 16, 17]),
-            8 => random.pick(&[31, 32]),
+            8 => 31,
             _ => random.below(32) as u64,
         };
         step.attr = attributes::any(random, &self.guess);
@@ -221,9 +221,10 @@ fn unknown_call(random: &mut Random) -> u8 {
     }
 }
 
-// A number about the end of the range that the operands of a call have.
-fn end_of_range(random: &mut Random, call: u8) -> u64 {
+// A number about the end of the range that an operand of a call has.
+fn end_of_range(random: &mut Random, call: u8, place: usize) -> u64 {
     match call {
+        1 if place == 1 => random.pick(&[31, 32]),
         2 => sets::bit_above_40(random),
         3..=7 => random.pick(&[40, 41, 63, 64]),
         9 => random.pick(&[255, 256]),
@@ -233,11 +234,11 @@ fn end_of_range(random: &mut Random, call: u8) -> u64 {
     }
 }
 
-// How many operands a call has, those of no range not counted.
+// How many operands a call has; one for those that have none.
 fn operand_count(call: u8) -> usize {
     match call {
         2 | 17 => 3,
-        16 => 2,
+        1 | 16 => 2,
         _ => 1,
     }
 }
@@ -255,7 +256,7 @@ fn spoil(random: &mut Random, step: &mut Step, guess: &Credentials) {
     match random.below(12) {
         0..=4 => {
             let place = random.below(operand_count(step.call));
-            *operand(step, place) = end_of_range(random, step.call);
+            *operand(step, place) = end_of_range(random, step.call, place);
         }
         5..=7 => *operand(step, random.below(3)) = random.pick(&EDGES),
         8 => *operand(step, random.below(3)) |= sets::bit_above_40(random),

@@ -1,5 +1,6 @@
 //! "Launching", a to f.
 
+mod root;
 mod rows;
 
 use super::attribute::{read, File, Reading};

@@ -1,7 +1,8 @@
 //! "Sheet, plan and report" and the codes of a plan: 70, 72, 28 in that order.
 
 use super::Row;
-use plans::{Fault, Flaw, Generated, Kind};
+use plans::{Fault, Generated, Kind};
+use second::Credentials;
 use urrezkalu::Outcome;
 
 /// The keys of a sheet's eleven lines, then those of a step's five.
@@ -27,13 +28,15 @@ const SHEET_LINES: u32 = 11;
 const STEP_LINES: u32 = 5;
 const LINE_OF_STEP_257: u32 = 1292;
 
-/// A text and what it came to in three buffers.
+/// A text and what it came to in four buffers.
 pub struct Sight {
     /// The text, and what was known of it beforehand.
     pub generated: Generated,
     /// With room for any report.
     pub outcome: Outcome,
-    /// One byte short of the report, or with no room if there is none.
+    /// With just the report's length, or no room if there is no report.
+    pub exact: Outcome,
+    /// One byte short of that, or with no room.
     pub one_short: Outcome,
     /// With no room.
     pub no_room: Outcome,
@@ -55,9 +58,10 @@ impl Sight {
         }
     }
 
-    fn flaw(&self) -> Option<Flaw> {
-        match self.generated.kind {
-            Kind::Flawed(_, flaw) => Some(flaw),
+    /// The start of a plan that is well-formed and not valid.
+    fn invalid_start(&self) -> Option<&Credentials> {
+        match &self.generated.kind {
+            Kind::Flawed(plan) => Some(&plan.start),
             _ => None,
         }
     }
@@ -89,6 +93,10 @@ pub fn rows() -> Vec<Row<Sight>> {
     rows
 }
 
+fn is_in_a_step(line: u32) -> bool {
+    line > SHEET_LINES && line < LINE_OF_STEP_257
+}
+
 fn rows_of_lines() -> Vec<Row<Sight>> {
     let mut rows = Vec::new();
     for (key, number) in KEYS.into_iter().zip(1..) {
@@ -98,9 +106,7 @@ fn rows_of_lines() -> Vec<Row<Sight>> {
                 line == number && s.fault() == Some(Fault::CutInLine)
             }));
         } else {
-            let is_it = move |line: u32| {
-                line > SHEET_LINES && (line - number).is_multiple_of(STEP_LINES) && line < LINE_OF_STEP_257
-            };
+            let is_it = move |line: u32| is_in_a_step(line) && line % STEP_LINES == number % STEP_LINES;
             rows.push(malformed(format!("70: {key} of a step"), move |_, line| is_it(line)));
             rows.push(malformed(format!("70: the text ends in {key} of a step"), move |s, line| {
                 is_it(line) && s.fault() == Some(Fault::CutInLine)
@@ -139,7 +145,7 @@ fn rows_of_faults() -> Vec<Row<Sight>> {
     }
     let blind = |s: &Sight| s.fault().is_some() && s.fault_line().is_none();
     rows.push(Row::new(
-        "70 or not: a byte changed, added or lost",
+        "0: a plan still, after a byte changed, was added or lost",
         move |s| blind(s) && matches!(s.outcome, Outcome::Report { .. }),
         |_| true,
     ));
@@ -176,6 +182,7 @@ fn described(fault: Fault) -> &'static str {
         Fault::LinesExchanged => "lines exchanged",
         Fault::CutInLine => "cut within a line",
         Fault::CutBetweenLines => "cut between lines",
+        Fault::LastNewlineLost => "last newline lost",
         Fault::Appended => "text appended",
         Fault::TooManySteps => "too many steps",
         Fault::ByteChanged => "byte changed",
@@ -187,25 +194,48 @@ fn described(fault: Fault) -> &'static str {
     }
 }
 
+/// The clauses of "Valid", each true where the credentials break it.
+const CLAUSES: [fn(&Credentials) -> bool; 12] = [
+    |t| t.effective & !t.permitted != 0,
+    |t| t.ambient & !t.permitted != 0,
+    |t| t.ambient & !t.inheritable != 0,
+    |t| t.permitted > FULL,
+    |t| t.inheritable > FULL,
+    |t| t.effective > FULL,
+    |t| t.bounding > FULL,
+    |t| t.ambient > FULL,
+    |t| t.ruid == u32::MAX,
+    |t| t.euid == u32::MAX,
+    |t| t.suid == u32::MAX,
+    |t| t.fsuid == u32::MAX,
+];
+const FULL: u64 = 0x1ff_ffff_ffff;
+
+/// Starts by the clauses that they break, which are just those. A bit above 40 in E is in P too, for E to be within it; likewise with A.
+const INVALID_STARTS: [(&str, &[usize]); 12] = [
+    ("E outside P", &[0]),
+    ("A outside P, within I", &[1]),
+    ("A outside I, within P", &[2]),
+    ("bit above 40 in P", &[3]),
+    ("bit above 40 in I", &[4]),
+    ("bit above 40 in E and P", &[3, 5]),
+    ("bit above 40 in B", &[6]),
+    ("bit above 40 in A, P and I", &[3, 4, 7]),
+    ("real ID 4294967295", &[8]),
+    ("effective ID 4294967295", &[9]),
+    ("saved ID 4294967295", &[10]),
+    ("filesystem ID 4294967295", &[11]),
+];
+
 fn rows_of_starts() -> Vec<Row<Sight>> {
-    let invalid = |s: &Sight| [s.outcome, s.one_short, s.no_room] == [Outcome::Invalid; 3];
+    let breaks_just = |start: &Credentials, these: &[usize]| {
+        CLAUSES.iter().enumerate().all(|(at, is_broken)| is_broken(start) == these.contains(&at))
+    };
+    let is_invalid = |s: &Sight| [s.outcome, s.exact, s.one_short, s.no_room] == [Outcome::Invalid; 4];
     let mut rows = Vec::new();
-    for flaw in Flaw::ALL {
-        let name = match flaw {
-            Flaw::EffectiveOutsidePermitted => "E outside P",
-            Flaw::AmbientOutsidePermitted => "A outside P, within I",
-            Flaw::AmbientOutsideInheritable => "A outside I, within P",
-            Flaw::PermittedBit => "bit above 40 in P",
-            Flaw::InheritableBit => "bit above 40 in I",
-            Flaw::EffectiveBit => "bit above 40 in E and P",
-            Flaw::BoundingBit => "bit above 40 in B",
-            Flaw::AmbientBit => "bit above 40 in A, P and I",
-            Flaw::RealId => "real ID 4294967295",
-            Flaw::EffectiveId => "effective ID 4294967295",
-            Flaw::SavedId => "saved ID 4294967295",
-            Flaw::FilesystemId => "filesystem ID 4294967295",
-        };
-        rows.push(Row::new(format!("72: {name}"), move |s: &Sight| s.flaw() == Some(flaw), invalid));
+    for (name, broken) in INVALID_STARTS {
+        let applies = move |s: &Sight| s.invalid_start().is_some_and(|start| breaks_just(start, broken));
+        rows.push(Row::new(format!("72: {name}"), applies, is_invalid));
     }
     rows
 }
@@ -217,6 +247,7 @@ fn rows_of_reports() -> Vec<Row<Sight>> {
         rows.push(Row::new(format!("0: {count} steps"), move |s: &Sight| s.steps() == Some(count), runs));
     }
     rows.push(Row::new("28: one byte short", |s: &Sight| s.steps().is_some(), |s| s.one_short == Outcome::NoRoom));
+    rows.push(Row::new("0: just enough room", |s: &Sight| s.steps().is_some(), |s| s.exact == s.outcome));
     rows.push(Row::new("28: no room", |s: &Sight| s.steps().is_some(), |s| s.no_room == Outcome::NoRoom));
     rows
 }

@@ -90,16 +90,16 @@ fn with_byte(random: &mut Random, line: &[u8], byte: u8) -> Vec<u8> {
 fn with_wrong_key(random: &mut Random, line: &[u8]) -> Vec<u8> {
     let mut line = line.to_vec();
     let equals = line.iter().position(|byte| *byte == b'=').expect("a line has a key");
-    match random.below(8) {
-        0 => line[0] = line[0].to_ascii_uppercase(),
-        1 => line[equals] = random.pick(b": \t-;>\n"),
-        2 => line.insert(equals, random.pick(b" =sx")),
-        3 => line.insert(0, random.pick(b" \t#;+x")),
-        4 => {
+    match random.below(9) {
+        0 | 1 => line[0] = line[0].to_ascii_uppercase(),
+        2 => line[equals] = random.pick(b": \t-;>\n"),
+        3 => line.insert(equals, random.pick(b" =sx")),
+        4 => line.insert(0, random.pick(b" \t#;+x")),
+        5 => {
             line.remove(random.below(equals + 1));
         }
-        5 => line[equals - 1] ^= 1 << random.below(8),
-        6 => {
+        6 => line[equals - 1] ^= 1 << random.below(8),
+        7 => {
             line.drain(..=equals);
         }
         _ => line.splice(..equals, *b"uid").for_each(drop),
@@ -111,7 +111,7 @@ fn wrong_value(random: &mut Random, fault: Fault, form: Form, value: &[u8]) -> V
     let mut value = value.to_vec();
     match fault {
         Fault::NotADigit => {
-            let byte = if form.is_hex() { random.pick(b"/:`g@GXx .,_-") } else { random.pick(b"/:aAxe .,_-") };
+            let byte = if form.is_hex() { random.pick(b"//::``gg@GXx. ") } else { random.pick(b"//::aAxe. ") };
             put_at_a_digit(random, &mut value, byte);
         }
         Fault::UpperCase => {
@@ -164,12 +164,12 @@ fn too_large(random: &mut Random, form: Form) -> &'static str {
         ]),
         Form::Call => random.pick(&[
             "100",
+            "100",
+            "100",
             "101",
             "118",
-            "255",
             "256",
             "257",
-            "999",
             "65537",
             "4294967297",
             "18446744073709551617",
