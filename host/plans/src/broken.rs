@@ -196,8 +196,8 @@ fn byte(random: &mut Random) -> u8 {
 fn noise(random: &mut Random) -> Vec<u8> {
     let most = match random.below(200) {
         0 => 4_000_000,
-        1..=9 => 100_000,
-        10..=99 => 2_000,
+        1..=19 => 100_000,
+        20..=99 => 2_000,
         100..=109 => 1,
         _ => 40,
     };
