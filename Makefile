@@ -1,7 +1,13 @@
-# The two commands of README.md.
-.PHONY: test run
+# The commands of README.md.
+.PHONY: test run library compare mutants bench kernel root
 SHELL := /bin/bash
 .SHELLFLAGS := -o pipefail -euc
+
+# How many plans `make compare` runs, and what `make kernel` is told besides (docs/KERNEL.md).
+N = 1000000
+OPTIONS =
+
+CARGO_RUN := cargo run --quiet --offline --release --manifest-path host/Cargo.toml
 
 # The gate: the layout, every proof from nothing, every must-fail edit, every program's output; then the tests that are not Rattle.
 # rt's own verdict, `N passed, M failed`, is held back until those have passed, and is the last line.
@@ -18,3 +24,28 @@ run:
 	@echo 'make run: proving and building the program first' >&2
 	@rt check urrezkalu >&2
 	@target/bin/urrezkalu <"$(PLAN)"
+
+# Proves the library and writes target/staticlib/libcapi.a, which host/binding and C programs link.
+library:
+	@echo 'make library: proving and building the library' >&2
+	@rt staticlib capi >&2
+
+# The library and the second program on N plans.
+compare: library
+	@$(CARGO_RUN) -p compare -- --count $(N)
+
+# Small wrong edits of the second program, each of which the comparison has to catch.
+mutants: library
+	@host/tests/mutants
+
+# The library's speed beside the second program's.
+bench: library
+	@$(CARGO_RUN) -p bench
+
+# Plans performed with real system calls, and what the kernel did laid beside the library's prediction.
+kernel: root library
+	@cc -std=c11 -static -O1 -Wall -Wextra -Werror host/kernel/harness/*.c -o target/kernel-harness
+	@$(CARGO_RUN) -p kernel -- target/kernel-harness examples $(OPTIONS)
+
+root:
+	@test "$$(id -u)" -eq 0 || { echo 'make kernel: needs root: it gives threads other IDs and capabilities' >&2; exit 2; }
