@@ -54,7 +54,7 @@ impl Batch {
             panic!("a plan that is to be measured is refused");
         };
         if let Kind::Broken = self.kind {
-            // A multiplier that has no factor in common with small lengths spreads the places.
+            // A place that follows from the seed and looks like any other.
             let place = (seed.wrapping_mul(0x9e37_79b9_7f4a_7c15) >> 16) as usize % text.len();
             text[place] = b'!';
         }
