@@ -8,15 +8,6 @@ pub use reader::read;
 pub use reader::reading_code;
 pub use writer::write;
 
-// What comes back: done, a bit above 40, no room in the buffer, an attribute that cannot be read.
-const DONE: u64 = 0;
-
-const OUT_OF_RANGE: u64 = 22;
-
-const NO_ROOM: u64 = 28;
-
-const UNREADABLE: u64 = 60;
-
 // An attribute's length, by its version.
 const XATTR_CAPS_SZ_1: usize = 12;
 
@@ -53,6 +44,6 @@ pub enum Reading {
 
 // What the writer answers: its code, and how many bytes it wrote, 0 where it refused.
 pub struct Written {
-    pub code: u64,
+    pub code: u8,
     pub length: usize,
 }

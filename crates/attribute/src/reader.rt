@@ -1,6 +1,5 @@
 // Reading an attribute of version 1 or 2 from bytes of any length and content. Each private function computes the
 // definition in specs/Reader.antt or specs/Words.antt that its contract names.
-use crate::DONE;
 use crate::FIRST_WORD;
 use crate::FileCapabilities;
 use crate::INHERITABLE_HIGH;
@@ -8,11 +7,13 @@ use crate::INHERITABLE_LOW;
 use crate::PERMITTED_HIGH;
 use crate::PERMITTED_LOW;
 use crate::Reading;
-use crate::UNREADABLE;
 use crate::WORD;
 use crate::XATTR_CAPS_SZ_1;
 use crate::XATTR_CAPS_SZ_2;
 use capabilities::sets;
+use codes::DONE;
+use codes::UNREADABLE_ATTRIBUTE;
+use codes::wide;
 ghost use mathlib.Core.Path.{_≡_};
 ghost use Prim.Native.Nat.{_≤_, _<_};
 ghost use Rattle.attribute.specs.Words.{byteAt, setOf, wordAt};
@@ -40,12 +41,12 @@ pub fn read(bytes: &[u8]) -> Reading
 }
 
 // The number that a reading answers: 0, or 60 where it is unreadable.
-pub fn reading_code(answer: Reading) -> u64
+pub fn reading_code(answer: Reading) -> u8
     ensures { λ r. ⌜ r ≡ readingCode answer ⌝ }
 {
     match answer {
         Reading::File(_) => DONE,
-        Reading::Unreadable => UNREADABLE,
+        Reading::Unreadable => UNREADABLE_ATTRIBUTE,
     }
 }
 
@@ -135,10 +136,4 @@ fn byte(bytes: &[u8], at: usize) -> u64
         return wide(bytes[at]);
     }
     0
-}
-
-fn wide(x: u8) -> u64
-    ensures { λ r. ⌜ (r ≡ x) × (r < 256) ⌝ }
-{
-    x as u64
 }

@@ -1,16 +1,16 @@
 // Writing an attribute of version 2 into a buffer that the caller lends.
-use crate::DONE;
 use crate::FIRST_WORD;
 use crate::INHERITABLE_HIGH;
 use crate::INHERITABLE_LOW;
-use crate::NO_ROOM;
-use crate::OUT_OF_RANGE;
 use crate::PERMITTED_HIGH;
 use crate::PERMITTED_LOW;
 use crate::WORD;
 use crate::Written;
 use crate::XATTR_CAPS_SZ_2;
 use crate::reader::has_bits_above_40;
+use codes::DONE;
+use codes::INVALID_ARGUMENT;
+use codes::NO_ROOM;
 ghost use mathlib.Core.Path.{_≡_};
 ghost use Prim.Native.Nat.{_+_, _≤_};
 ghost use lib.ListN.{length};
@@ -29,7 +29,7 @@ pub fn write(permitted: u64, inheritable: u64, effective: bool, buffer: &mut [u8
     ensures { λ r. ⌜ (r ≡ written permitted inheritable (length (now (buffer .entry)))) × (now (buffer .exit) ≡ bufferAfter permitted inheritable effective (now (buffer .entry))) ⌝ }
 {
     if has_bits_above_40(permitted, inheritable) {
-        return refused(OUT_OF_RANGE);
+        return refused(INVALID_ARGUMENT);
     }
     if buffer.len() < XATTR_CAPS_SZ_2 {
         return refused(NO_ROOM);
@@ -41,7 +41,7 @@ pub fn write(permitted: u64, inheritable: u64, effective: bool, buffer: &mut [u8
     }
 }
 
-fn refused(number: u64) -> Written
+fn refused(number: u8) -> Written
     ensures { λ r. ⌜ r ≡ refused number ⌝ }
 {
     Written {
