@@ -1,7 +1,10 @@
 //! The security.capability attribute of a file, as bytes.
 
+use crate::buffer::put_in_front;
 use crate::capability::{is_within, FULL_SET};
+use crate::decode::{capability_set, switch};
 use crate::refusal::Refusal;
+use crate::written::Written;
 
 const VFS_CAP_REVISION_1: u32 = 0x0100_0000;
 const VFS_CAP_REVISION_2: u32 = 0x0200_0000;
@@ -13,6 +16,37 @@ pub(crate) struct FileCapabilities {
     pub(crate) permitted: u64,
     pub(crate) inheritable: u64,
     pub(crate) effective: bool,
+}
+
+/// Reads an attribute into the first four places of `values`: 1 if one is attached and else 0, its permitted set, its
+/// inheritable set, its effective bit. Answers 4, or refuses with 60 (unreadable) or 28 (fewer than four places), in
+/// that order. A refusal leaves every place as it was, and places past the fourth stay.
+pub fn read_attribute(attribute: &[u8], values: &mut [u64]) -> Written {
+    Written::from_result(read_into(attribute, values))
+}
+
+/// Writes an attribute, always as version 2, into the first 20 bytes of `attribute`. Answers 20, or refuses with 22 (a
+/// capability above the last one, or an effective bit that is neither 0 nor 1) or 28 (fewer than 20 bytes), in that
+/// order. A refusal leaves every byte as it was, and bytes past those written stay.
+pub fn write_attribute(permitted: u64, inheritable: u64, effective: u64, attribute: &mut [u8]) -> Written {
+    Written::from_result(write_into(permitted, inheritable, effective, attribute))
+}
+
+fn read_into(attribute: &[u8], values: &mut [u64]) -> Result<usize, Refusal> {
+    let read = match read(attribute)? {
+        Some(file) => [1, file.permitted, file.inheritable, u64::from(file.effective)],
+        None => [0, 0, 0, 0],
+    };
+    put_in_front(&read, values).ok_or(Refusal::NoRoom)
+}
+
+fn write_into(permitted: u64, inheritable: u64, effective: u64, attribute: &mut [u8]) -> Result<usize, Refusal> {
+    let file = FileCapabilities {
+        permitted: capability_set(permitted)?,
+        inheritable: capability_set(inheritable)?,
+        effective: switch(effective)?,
+    };
+    put_in_front(&write(file), attribute).ok_or(Refusal::NoRoom)
 }
 
 /// Reads the attribute; no bytes mean that none is attached, which is not the same as one of empty sets.
@@ -50,6 +84,31 @@ fn read_effective_bit(first_word: u32, revision: u32) -> Option<bool> {
         VFS_CAP_FLAGS_EFFECTIVE => Some(true),
         _ => None,
     }
+}
+
+/// The bytes of a version 2 attribute.
+fn write(file: FileCapabilities) -> Vec<u8> {
+    let effective_bit = if file.effective { VFS_CAP_FLAGS_EFFECTIVE } else { 0 };
+    let words = [
+        VFS_CAP_REVISION_2 | effective_bit,
+        low_half(file.permitted),
+        low_half(file.inheritable),
+        high_half(file.permitted),
+        high_half(file.inheritable),
+    ];
+    let mut bytes = Vec::new();
+    for word in words {
+        bytes.extend_from_slice(&word.to_le_bytes());
+    }
+    bytes
+}
+
+fn low_half(set: u64) -> u32 {
+    set as u32
+}
+
+fn high_half(set: u64) -> u32 {
+    (set >> 32) as u32
 }
 
 /// The little-endian word at `index`; the caller has checked the length.

@@ -100,7 +100,8 @@ fn launch_flags(operand: u64) -> Result<u64, Refusal> {
     }
 }
 
-fn capability_set(operand: u64) -> Result<u64, Refusal> {
+/// A set of capabilities that there are.
+pub(crate) fn capability_set(operand: u64) -> Result<u64, Refusal> {
     if is_within(operand, FULL_SET) {
         Ok(operand)
     } else {
@@ -115,7 +116,8 @@ fn capability(operand: u64) -> Result<u32, Refusal> {
     }
 }
 
-fn switch(operand: u64) -> Result<bool, Refusal> {
+/// Off for 0 and on for 1.
+pub(crate) fn switch(operand: u64) -> Result<bool, Refusal> {
     match operand {
         0 => Ok(false),
         1 => Ok(true),

@@ -2,8 +2,11 @@
 //! no-new-privs flag, and what eighteen system calls do to them.
 //!
 //! [`perform`] answers one call; [`run_plan`] reads a plan as text, runs its steps in order and writes a report.
+//! [`read_sheet`] and [`write_sheet`] turn credentials alone from text into numbers and back, [`read_attribute`] and
+//! [`write_attribute`] the capability attribute of a file from bytes.
 
 mod attribute;
+mod buffer;
 mod calls;
 mod capability;
 mod credentials;
@@ -16,8 +19,13 @@ mod refusal;
 mod report;
 mod securebits;
 mod sets;
+mod sheet;
+mod written;
 
+pub use attribute::{read_attribute, write_attribute};
 pub use calls::{perform, Answer};
 pub use credentials::Credentials;
 pub use decode::Step;
 pub use plan::{run_plan, Outcome};
+pub use sheet::{read_sheet, write_sheet};
+pub use written::Written;

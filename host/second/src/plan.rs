@@ -2,6 +2,7 @@
 
 use std::fmt;
 
+use crate::buffer::put_in_front;
 use crate::calls::perform;
 use crate::reader::{read_plan, Malformed, Plan};
 use crate::report::{write_answer, write_sheet};
@@ -36,11 +37,8 @@ pub fn run_plan(plan: &[u8], report: &mut [u8]) -> Outcome {
         return Outcome::Invalid;
     }
     let text = run_steps(plan).expect("a String takes whatever is written into it");
-    match report.get_mut(..text.len()) {
-        Some(front) => {
-            front.copy_from_slice(text.as_bytes());
-            Outcome::Report { length: text.len() }
-        }
+    match put_in_front(text.as_bytes(), report) {
+        Some(length) => Outcome::Report { length },
         None => Outcome::NoRoom,
     }
 }

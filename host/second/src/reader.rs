@@ -1,4 +1,5 @@
-//! Reads the text of a plan: a sheet of credentials and up to 256 steps, each line a key, `=` and a value.
+//! Reads the text of a plan: a sheet of credentials and up to 256 steps, each line a key, `=` and a value. A sheet can
+//! also stand alone.
 
 use crate::credentials::Credentials;
 use crate::decode::Step;
@@ -17,7 +18,7 @@ pub(crate) struct Plan {
     pub(crate) steps: Vec<Step>,
 }
 
-/// The text is no plan; the line is one more than the complete correct lines before the fault.
+/// The text is no plan, or no sheet; the line is one more than the complete correct lines before the fault.
 #[derive(Debug, PartialEq, Eq)]
 pub(crate) struct Malformed {
     pub(crate) line: u32,
@@ -35,6 +36,16 @@ pub(crate) fn read_plan(text: &[u8]) -> Result<Plan, Malformed> {
         steps.push(reader.step()?);
     }
     Ok(Plan { start, steps })
+}
+
+/// Reads a sheet that stands alone; nothing may follow its last line.
+pub(crate) fn read_sheet(text: &[u8]) -> Result<Credentials, Malformed> {
+    let mut reader = Reader { rest: text, line: 1 };
+    let credentials = reader.sheet()?;
+    if !reader.rest.is_empty() {
+        return Err(reader.fault());
+    }
+    Ok(credentials)
 }
 
 /// The text still to be read, and the number of its first line.

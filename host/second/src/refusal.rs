@@ -1,16 +1,23 @@
-//! Why a call is refused.
+//! Why a call, a reader or a writer is refused.
 
-/// The refusals of a call, in the order in which they are looked for.
+/// The refusals. Those of a call stand in the order in which they are looked for; the last two are not for calls.
 #[derive(Clone, Copy, Debug, PartialEq, Eq)]
 pub(crate) enum Refusal {
     /// The credentials given are not valid.
     InvalidCredentials,
-    /// There is no such call, or an operand or the attribute is out of its range.
+    /// There is no such call, or an operand, a set or the attribute is out of its range.
     BadOperand,
     /// The file's capability attribute counts but cannot be read.
     UnreadableAttribute,
     /// The rules of the call do not allow it (EPERM).
     NotPermitted,
+    /// The text is malformed.
+    Malformed {
+        /// One more than the complete correct lines before the fault.
+        line: u32,
+    },
+    /// The buffer is too short for what would go into it.
+    NoRoom,
 }
 
 impl Refusal {
@@ -21,6 +28,8 @@ impl Refusal {
             Refusal::BadOperand => 22,
             Refusal::UnreadableAttribute => 60,
             Refusal::NotPermitted => 1,
+            Refusal::Malformed { .. } => 70,
+            Refusal::NoRoom => 28,
         }
     }
 }
