@@ -45,5 +45,5 @@ pub enum Reading {
 // What the writer answers: its code, and how many bytes it wrote, 0 where it refused.
 pub struct Written {
     pub code: u8,
-    pub length: usize,
+    pub length: u32,
 }

@@ -23,6 +23,9 @@ const VFS_CAP_REVISION_2: u64 = 0x0200_0000;
 
 const VFS_CAP_FLAGS_EFFECTIVE: u64 = 1;
 
+// How many bytes are written.
+const VERSION_2_LENGTH: u32 = 20;
+
 // Writes two sets and an effective bit as a version 2 attribute at the start of buffer: 22 where a set has a bit above 40, then 28 where buffer
 // is shorter than 20 bytes, and in both cases nothing is written; else 20 bytes, and those past them stay.
 pub fn write(permitted: u64, inheritable: u64, effective: bool, buffer: &mut [u8]) -> Written
@@ -37,7 +40,7 @@ pub fn write(permitted: u64, inheritable: u64, effective: bool, buffer: &mut [u8
     put_words(permitted, inheritable, effective, buffer);
     Written {
         code: DONE,
-        length: XATTR_CAPS_SZ_2,
+        length: VERSION_2_LENGTH,
     }
 }
 

@@ -1,12 +1,35 @@
-// The C interface: the plan runner on two byte slices, a number back.
+// The C interface, on byte slices and numbers, a number back: the plan runner, and the readers and writers of sheets and attributes.
 //
-// In C a slice is a pointer and a length. The two buffers may not overlap; either may be empty. The crate assumes nothing.
+// In C a slice is a pointer and a length. No two slices of a call may overlap; any may be empty. The number is the code times 4294967296, plus a line,
+// a length or a count. What a reader gives are 64-bit numbers, in a slice that the caller lends. The crate assumes nothing.
 ghost use mathlib.Core.Path.{_≡_};
-ghost use lib.ListN.{length};
+ghost use mathlib.Core.List.{_++_};
+ghost use Prim.Native.Nat.{_≤_};
+ghost use lib.ListN.{length, drop};
+ghost use Rattle.attribute.specs.Reader.{reading};
+ghost use Rattle.format.specs.Sheet.{sheetKinds, credentialsOf, readSheet, sheetValues};
 ghost use Rattle.format.specs.Report.{verdict, outcome, buffer, cNumber};
+ghost use Rattle.capi.specs.Interface.{areValues, bitBuffer, bitWritten, fileGiven, fileNumber, fileValues, joined, sheetGiven, sheetNumber, valuesBuffer, valuesWritten, writtenNumber};
+use attribute::FileCapabilities;
+use attribute::Reading;
+use codes::DONE;
+use codes::INVALID_ARGUMENT;
+use codes::INVALID_CREDENTIALS;
+use codes::MALFORMED;
+use codes::NO_ROOM;
+use codes::UNREADABLE_ATTRIBUTE;
+use credentials::Credentials;
+use credentials::Ids;
+use credentials::Sets;
+use format::SheetReading;
 
 // The place of the code in the number.
 const CODE: u64 = 0x1_0000_0000;
+
+// How many numbers a sheet has, and a file's capabilities.
+const SHEET_VALUES: usize = 11;
+
+const FILE_VALUES: usize = 4;
 
 // Runs the plan and writes its report at the front of the buffer: the code times 4294967296, plus the line of a fault (70) or the report's length
 // (0). A plan that is refused leaves the buffer as it was.
@@ -19,4 +42,146 @@ pub extern "C" fn urrezkalu_run_plan(plan: &[u8], report: &mut [u8]) -> u64
     let line = ran.line as u64;
     let length = ran.length as u64;
     code * CODE + (line + length)
+}
+
+// Reads a text that is to be a sheet: 70 with the line of its fault, 72 where its credentials are not valid, 28 where values is shorter than
+// eleven, and in each case values stays; else 11, and the first eleven of values are those of the sheet's lines, in their order.
+#[no_mangle]
+pub extern "C" fn urrezkalu_read_sheet(text: &[u8], values: &mut [u64]) -> u64
+    ensures { λ r. ⌜ (r ≡ sheetNumber (readSheet (now (text .entry))) (length (now (values .entry)))) × (now (values .exit) ≡ sheetGiven (readSheet (now (text .entry))) (now (values .entry))) ⌝ }
+{
+    match sheet_reader::read_sheet(text) {
+        SheetReading::Malformed(line) => {
+            return joined(MALFORMED, line);
+        }
+        SheetReading::Invalid => {
+            return joined(INVALID_CREDENTIALS, 0);
+        }
+        SheetReading::Sheet(held) => {
+            if values.len() < SHEET_VALUES {
+                return joined(NO_ROOM, 0);
+            }
+            put_credentials(values, held);
+            return joined(DONE, SHEET_VALUES as u32);
+        }
+    }
+}
+
+// Writes the sheet of the credentials whose values these are at the front of the buffer: 72 where there are not eleven of them, the last is neither 0
+// nor 1, or the credentials are not valid, then 28 where the sheet is longer than the buffer, and in each case nothing is written; else the sheet's length.
+#[no_mangle]
+pub extern "C" fn urrezkalu_write_sheet(values: &[u64], sheet: &mut [u8]) -> u64
+    ensures { λ r. ⌜ (r ≡ writtenNumber (valuesWritten (now (values .entry)) (length (now (sheet .entry))))) × (now (sheet .exit) ≡ valuesBuffer (now (values .entry)) (now (sheet .entry))) ⌝ }
+{
+    if are_values(values) {
+        let written = sheet_writer::write_sheet(credentials_of(values), sheet);
+        return joined(written.code, written.length);
+    }
+    joined(INVALID_CREDENTIALS, 0)
+}
+
+// Reads an attribute: 60 where it cannot be read, 28 where values is shorter than four, and in both cases values stays; else 4, and the
+// first four of values are whether an attribute is attached, its permitted set, its inheritable set and its effective bit.
+#[no_mangle]
+pub extern "C" fn urrezkalu_read_attribute(attribute: &[u8], values: &mut [u64]) -> u64
+    ensures { λ r. ⌜ (r ≡ fileNumber (reading (now (attribute .entry))) (length (now (values .entry)))) × (now (values .exit) ≡ fileGiven (reading (now (attribute .entry))) (now (values .entry))) ⌝ }
+{
+    let Reading::File(file) = attribute::read(attribute) else {
+        return joined(UNREADABLE_ATTRIBUTE, 0);
+    };
+    if values.len() < FILE_VALUES {
+        return joined(NO_ROOM, 0);
+    }
+    put_file(values, file);
+    joined(DONE, FILE_VALUES as u32)
+}
+
+// Writes two sets and an effective bit as a version 2 attribute at the front of the buffer: 22 where a set has a bit above 40 or the effective bit is
+// neither 0 nor 1, then 28 where the buffer is shorter than 20 bytes, and in both cases nothing is written; else 20.
+#[no_mangle]
+pub extern "C" fn urrezkalu_write_attribute(
+    permitted: u64,
+    inheritable: u64,
+    effective: u64,
+    attribute: &mut [u8],
+) -> u64
+    ensures { λ r. ⌜ (r ≡ writtenNumber (bitWritten permitted inheritable effective (length (now (attribute .entry))))) × (now (attribute .exit) ≡ bitBuffer permitted inheritable effective (now (attribute .entry))) ⌝ }
+{
+    if effective <= 1 {
+        let written = attribute::write(permitted, inheritable, effective == 1, attribute);
+        return joined(written.code, written.length);
+    }
+    joined(INVALID_ARGUMENT, 0)
+}
+
+// The number of a code and a line, a length or a count.
+fn joined(code: u8, low: u32) -> u64
+    ensures { λ r. ⌜ r ≡ joined code low ⌝ }
+{
+    code as u64 * CODE + low as u64
+}
+
+// Whether numbers are the values of credentials, valid or not.
+fn are_values(values: &[u64]) -> bool
+    ensures { λ r. ⌜ r ≡ areValues (now (values .entry)) ⌝ }
+{
+    if values.len() == SHEET_VALUES {
+        return values[10] <= 1;
+    }
+    false
+}
+
+// The credentials of a sheet's values.
+fn credentials_of(values: &[u64]) -> Credentials
+    requires { ⌜ length (now values) ≡ 11 ⌝ }
+    ensures { λ r. ⌜ r ≡ credentialsOf (now (values .entry)) ⌝ }
+{
+    let uids = Ids {
+        real: values[0],
+        effective: values[1],
+        saved: values[2],
+        filesystem: values[3],
+    };
+    let sets = Sets {
+        permitted: values[4],
+        inheritable: values[5],
+        effective: values[6],
+        bounding: values[7],
+        ambient: values[8],
+    };
+    Credentials {
+        uids,
+        sets,
+        securebits: values[9],
+        nnp: values[10] == 1,
+    }
+}
+
+// The values of a sheet's lines, at the front of values.
+fn put_credentials(values: &mut [u64], held: Credentials)
+    requires { ⌜ 11 ≤ length (now values) ⌝ }
+    ensures { λ _. ⌜ now (values .exit) ≡ sheetValues held ++ drop 11 (now (values .entry)) ⌝ }
+{
+    values[0] = held.uids.real;
+    values[1] = held.uids.effective;
+    values[2] = held.uids.saved;
+    values[3] = held.uids.filesystem;
+    values[4] = held.sets.permitted;
+    values[5] = held.sets.inheritable;
+    values[6] = held.sets.effective;
+    values[7] = held.sets.bounding;
+    values[8] = held.sets.ambient;
+    values[9] = held.securebits;
+    values[10] = held.nnp as u64;
+}
+
+// A file's capabilities as numbers, at the front of values.
+fn put_file(values: &mut [u64], file: FileCapabilities)
+    requires { ⌜ 4 ≤ length (now values) ⌝ }
+    ensures { λ _. ⌜ now (values .exit) ≡ fileValues file ++ drop 4 (now (values .entry)) ⌝ }
+{
+    values[0] = file.attached as u64;
+    values[1] = file.permitted;
+    values[2] = file.inheritable;
+    values[3] = file.effective as u64;
 }

@@ -10,10 +10,10 @@ use lib.Dec.{ltb, leb, eqb}
 use lib.ListN.{length, getD, drop, length-drop, drop-of-length-le}
 use lib.Seq.{drop-cons, drop-drop, getD-drop}
 use Rattle.format.specs.Line.{Form, decimal, hex, Read, read, fault, hexDigit, decimalDigit, newline, readHex, readDigits, readDecimal, readValue, afterKey}
-use Rattle.line_reader.specs.declared.Line.the-variants.{Is, Fault}
+use Rattle.line_reader.specs.declared.lines.Line.the-variants.{Is, Fault}
 use Rattle.line_reader.specs.declared.lines.Digits.{Digits}
 use Rattle.line_reader.specs.declared.lines.Digits.the-variants.{Make, No}
-use Rattle.line_reader.specs.Positions.{placed, lineAt}
+use Rattle.line_reader.specs.Inside.{placed, lineAt}
 use Rattle.line_reader.specs.Inside.{startsWith, hexOf}
 
 cond-same : {A : Type 0} (t : Bool) (x : A) → cond t x x ≡ x

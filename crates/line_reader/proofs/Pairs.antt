@@ -10,8 +10,8 @@ use lib.ListN.{length, getD, set, take, drop, replicate, length-drop, drop-of-le
 use lib.Seq.{drop-cons, drop-drop, length-take-le}
 use Rattle.format.specs.Line.{read, fault, hexDigit, newline}
 use Rattle.format.specs.Step.{readPairs}
-use Rattle.line_reader.specs.declared.Attribute.{Attribute}
-use Rattle.line_reader.specs.Positions.{placedAttribute, noAttribute, attributeAt}
+use Rattle.line_reader.specs.declared.lines.Bytes.{Bytes}
+use Rattle.line_reader.specs.Inside.{placedBytes, noBytes, bytesAt}
 use Rattle.line_reader.specs.Inside.{startsWith}
 use Rattle.line_reader.proofs.LineLaws.{position, key-there, key-missing, key-short}
 
@@ -78,7 +78,7 @@ zeros-left l n k m x e h =
 
 -- the bytes at the front of an array that is 0 behind them
 pub attribute-found : (text bytes : List ℕ) (n i : ℕ) → i ≤ length text → n ≤ 24 → length bytes ≡ 24 → drop n bytes ≡ replicate (24 - n) 0
-    → _≡_ {A = Attribute} (record { found = true; next = i; size = n; bytes = bytes }) (placedAttribute text (read (take n bytes) (drop i text)))
+    → _≡_ {A = Bytes} (record { found = true; next = i; size = n; bytes = bytes }) (placedBytes text (read (take n bytes) (drop i text)))
 attribute-found text bytes n i h g e z =
     let s : length (take n bytes) ≡ n = length-take-le n bytes (omega (arith, g, e)) in
     let b : bytes ≡ take n bytes ++ replicate (24 - n) 0 = sym (take-append-drop n bytes) ∙ ap (λ (r : List ℕ). take n bytes ++ r) z in
@@ -93,15 +93,15 @@ no-pairs (b ∷ u) h = absurd (omega arith)
 
 module _ (key text : List ℕ) (at : ℕ) where
   -- too short for the key
-  pub attribute-short : length text < at + length key → attributeAt key text at ≡ noAttribute
-  unfolding attributeAt
+  pub attribute-short : length text < at + length key → bytesAt key text at ≡ noBytes
+  unfolding bytesAt
   attribute-short h = rw (key-short 1 key (readPairs 24 []) (drop at text) no-pairs (omega (arith, length-drop at text)))
 
-  pub attribute-missing : startsWith key (drop at text) ≡ false → attributeAt key text at ≡ noAttribute
-  unfolding attributeAt
+  pub attribute-missing : startsWith key (drop at text) ≡ false → bytesAt key text at ≡ noBytes
+  unfolding bytesAt
   attribute-missing h = rw (key-missing key (readPairs 24 []) (drop at text) h)
 
-  pub attribute-there : startsWith key (drop at text) ≡ true → attributeAt key text at ≡ placedAttribute text (readPairs 24 [] (drop (at + length key) text))
-  unfolding attributeAt
+  pub attribute-there : startsWith key (drop at text) ≡ true → bytesAt key text at ≡ placedBytes text (readPairs 24 [] (drop (at + length key) text))
+  unfolding bytesAt
   attribute-there h =
-      ap (placedAttribute text) (key-there key (readPairs 24 []) (drop at text) h ∙ ap (readPairs 24 []) (drop-drop (length key) at text))
+      ap (placedBytes text) (key-there key (readPairs 24 []) (drop at text) h ∙ ap (readPairs 24 []) (drop-drop (length key) at text))

@@ -1,14 +1,16 @@
-// Readers of a `key=value` line at a position of a text, one to a form of value.
+// Readers of a `key=value` line at a place of a text, one to a form of value.
 //
-// A key is handed in with its `=`. The format itself is defined in the crate `format`. Every function is proved, for every argument: no
-// public one has a `requires`. The crate assumes nothing.
+// A place tells how far the text is read, and whether there was a fault; so lines are read one after the other, each at the place that the last one
+// gave, and the fault's line is known at the end. A key is handed in with its `=`. The format itself is defined in the crate `format`. Every function is
+// proved, for every argument: no public one has a `requires`. The crate assumes nothing.
 mod digits;
 mod lines;
+mod places;
 
-pub use lines::read_attribute;
-pub use lines::read_decimal;
-pub use lines::read_hex2;
-pub use lines::read_hex16;
+pub use places::read_attribute;
+pub use places::read_decimal;
+pub use places::read_hex2;
+pub use places::read_hex16;
 
 // The byte that ends a line.
 const NEWLINE: u8 = 10;
@@ -16,17 +18,24 @@ const NEWLINE: u8 = 10;
 // The most bytes of an attribute's line.
 const MOST_ATTRIBUTE: usize = 24;
 
-// A line's value and the position past the line, or that there is no such line.
-pub enum Line {
-    Is(u64, usize),
-    Fault,
+// Where a text is read to: the position past the lines that were read, and how many they are. Where one of them is at fault, its position, and
+// which line it is, counted from 1.
+pub struct Place {
+    pub at: usize,
+    pub lines: u32,
+    pub fault: bool,
 }
 
-// An attribute's line: whether there is one, the position past it, and how many bytes it has, which are the first of the array. Everything else
-// is 0.
+// A line's value, and the place past the line. Where there is a fault, the value is 0.
+pub struct Number {
+    pub value: u64,
+    pub place: Place,
+}
+
+// An attribute's bytes, which are the first of the array, how many they are, and the place past their line. Where there is a fault, all bytes and
+// the size are 0.
 pub struct Attribute {
-    pub found: bool,
-    pub next: usize,
+    pub place: Place,
     pub size: usize,
     pub bytes: [u8; 24],
 }

@@ -5,17 +5,29 @@ ghost use mathlib.Core.List.{[]};
 ghost use lib.ListN.{length, drop};
 ghost use Rattle.format.specs.Line.{decimal, hex, readDigits};
 ghost use Rattle.format.specs.Step.{readPairs};
-ghost use Rattle.line_reader.specs.Positions.{lineAt, placed, attributeAt, placedAttribute, noAttribute};
-ghost use Rattle.line_reader.specs.Inside.{startsWith, hexOf};
-use crate::Attribute;
-use crate::Line;
+ghost use Rattle.line_reader.specs.Inside.{startsWith, hexOf, lineAt, placed, bytesAt, placedBytes, noBytes};
 use crate::MOST_ATTRIBUTE;
 use crate::NEWLINE;
 use crate::digits::decimal_digit;
 use crate::digits::hex_digit;
 
+// A line's value and the position past the line, or that there is no such line.
+pub(crate) enum Line {
+    Is(u64, usize),
+    Fault,
+}
+
+// An attribute's line: whether there is one, the position past it, and how many bytes it has, which are the first of the array. Everything else
+// is 0.
+pub(crate) struct Bytes {
+    pub found: bool,
+    pub next: usize,
+    pub size: usize,
+    pub bytes: [u8; 24],
+}
+
 // A number, or that some digit is none.
-pub enum Digits {
+enum Digits {
     Make(u64),
     No,
 }
@@ -55,7 +67,7 @@ fn hex_at(text: &[u8], at: usize, n: usize) -> Digits
 }
 
 // The line of key and n hex digits at the position at of text.
-fn hex_line(text: &[u8], at: usize, key: &[u8], n: usize) -> Line
+pub(crate) fn hex_line(text: &[u8], at: usize, key: &[u8], n: usize) -> Line
     requires { ⌜ n ≤ 16 ⌝ }
     ensures { λ r. ⌜ r ≡ lineAt (now (key .entry)) (hex n) (now (text .entry)) at ⌝ }
 {
@@ -78,20 +90,6 @@ fn hex_line(text: &[u8], at: usize, key: &[u8], n: usize) -> Line
         }
     }
     Line::Fault
-}
-
-// The line of key and 16 hex digits at the position at of text.
-pub fn read_hex16(text: &[u8], at: usize, key: &[u8]) -> Line
-    ensures { λ r. ⌜ r ≡ lineAt (now (key .entry)) (hex 16) (now (text .entry)) at ⌝ }
-{
-    hex_line(text, at, key, 16)
-}
-
-// The line of key and 2 hex digits at the position at of text.
-pub fn read_hex2(text: &[u8], at: usize, key: &[u8]) -> Line
-    ensures { λ r. ⌜ r ≡ lineAt (now (key .entry)) (hex 2) (now (text .entry)) at ⌝ }
-{
-    hex_line(text, at, key, 2)
 }
 
 // The digits after first, and the newline.
@@ -124,7 +122,7 @@ fn digits_at(text: &[u8], at: usize, largest: u32, first: u64) -> Line
 }
 
 // The line of key and a decimal number up to largest at the position at of text.
-pub fn read_decimal(text: &[u8], at: usize, key: &[u8], largest: u32) -> Line
+pub(crate) fn decimal_line(text: &[u8], at: usize, key: &[u8], largest: u32) -> Line
     ensures { λ r. ⌜ r ≡ lineAt (now (key .entry)) (decimal largest) (now (text .entry)) at ⌝ }
 {
     let size = key.len() + 1;
@@ -150,10 +148,10 @@ pub fn read_decimal(text: &[u8], at: usize, key: &[u8], largest: u32) -> Line
 }
 
 // What is answered where there is no attribute's line.
-fn no_attribute() -> Attribute
-    ensures { λ r. ⌜ r ≡ noAttribute ⌝ }
+fn no_bytes() -> Bytes
+    ensures { λ r. ⌜ r ≡ noBytes ⌝ }
 {
-    Attribute {
+    Bytes {
         found: false,
         next: 0,
         size: 0,
@@ -162,8 +160,8 @@ fn no_attribute() -> Attribute
 }
 
 // The bytes of two hex digits each from the position start on, and the newline.
-fn pairs_at(text: &[u8], start: usize) -> Attribute
-    ensures { λ r. ⌜ r ≡ placedAttribute (now (text .entry)) (readPairs 24 [] (drop start (now (text .entry)))) ⌝ }
+fn pairs_at(text: &[u8], start: usize) -> Bytes
+    ensures { λ r. ⌜ r ≡ placedBytes (now (text .entry)) (readPairs 24 [] (drop start (now (text .entry)))) ⌝ }
 {
     let mut bytes = [0u8; 24];
     let mut i = start;
@@ -171,7 +169,7 @@ fn pairs_at(text: &[u8], start: usize) -> Attribute
     while i < text.len() {
         let b = text[i];
         if b == NEWLINE {
-            return Attribute {
+            return Bytes {
                 found: true,
                 next: i + 1,
                 size: n,
@@ -179,41 +177,41 @@ fn pairs_at(text: &[u8], start: usize) -> Attribute
             };
         }
         if n == MOST_ATTRIBUTE {
-            return no_attribute();
+            return no_bytes();
         }
         let high = hex_digit(b);
         if 16 <= high {
-            return no_attribute();
+            return no_bytes();
         }
         let j = i + 1;
         if text.len() <= j {
-            return no_attribute();
+            return no_bytes();
         }
         let low = hex_digit(text[j]);
         if 16 <= low {
-            return no_attribute();
+            return no_bytes();
         }
         bytes[n] = (high * 16 + low) as u8;
         n += 1;
         i = j + 1;
     }
-    no_attribute()
+    no_bytes()
 }
 
 // The line of key and up to 24 bytes, two hex digits each, at the position at of text.
-pub fn read_attribute(text: &[u8], at: usize, key: &[u8]) -> Attribute
-    ensures { λ r. ⌜ r ≡ attributeAt (now (key .entry)) (now (text .entry)) at ⌝ }
+pub(crate) fn bytes_line(text: &[u8], at: usize, key: &[u8]) -> Bytes
+    ensures { λ r. ⌜ r ≡ bytesAt (now (key .entry)) (now (text .entry)) at ⌝ }
 {
     let size = key.len();
     let len = text.len();
     if len < size {
-        return no_attribute();
+        return no_bytes();
     }
     if len - size < at {
-        return no_attribute();
+        return no_bytes();
     }
     if starts_with(text, at, key) {
         return pairs_at(text, at + size);
     }
-    no_attribute()
+    no_bytes()
 }

@@ -2,16 +2,17 @@
 use mathlib.Core.Path.{_≡_, refl, sym, ap, _∙_}
 use mathlib.Core.List.{List, [], _∷_, _++_}
 use Prim.Native.Nat.{ℕ, suc, _+_, _/_, _%_, _^_, _<_, _≤_}
-use native.Mathlib.Nat.{add-zero, add-suc, suc-add}
+use native.Mathlib.Nat.{add-zero, add-suc, suc-add, add-assoc}
 use native.Mathlib.Numerals.{add-one}
 use native.Mathlib.Omega.{arith}
 use borrow.Author.Tests.{le-leb, lt-leb}
 use lib.ListN.{length, getD, set, drop, length-append, drop-of-length-le}
 use lib.Seq.{sets, set-comm, drop-cons, length-sets}
-use Rattle.format.specs.Line.{bytes, digit, hexText, decimalText, keyedText}
+use Rattle.format.specs.Line.{bytes, Kind, digit, hexText, decimalText, keyedText, lineText, linesText}
 use Rattle.format.proofs.Decimals.{decimal-one, decimal-more}
 use Rattle.format.proofs.Lengths.{length-hex, length-more, at-most, length-keyed}
 use Rattle.line_writer.specs.Positions.{written, writtenTo}
+use Rattle.line_writer.specs.Inside.{Put, linesPut}
 
 pub sets-append : (xs ys l : List ℕ) (i : ℕ) → sets l i (xs ++ ys) ≡ sets (sets l i xs) (i + length xs) ys
 sets-append [] ys l i = rw (add-zero i)
@@ -86,25 +87,37 @@ module _ (key value old : List ℕ) (at : ℕ) where
       let e = le-leb (at + length (keyedText key value)) (length old) (omega (arith, length-keyed key value)) in
       rw e (omega (arith, length-keyed key value), put-keyed key value old at p q hp hq)
 
--- ---- texts one after the other
+-- ---- lines one after the other
 
-module _ (old : List ℕ) (at : ℕ) where
+module _ (t old : List ℕ) (at : ℕ) where
   -- a text that fits
-  pub written-first : (t buf : List ℕ) (r : ℕ) → at + length t ≤ length old → r ≡ writtenTo old at t → buf ≡ written old at t
-      → (r ≡ at + length t) × (buf ≡ sets old at t)
+  text-put : at + length t ≤ length old → (writtenTo old at t ≡ at + length t) × (written old at t ≡ sets old at t)
   unfolding written writtenTo
-  written-first t buf r h p q =
-      let e = le-leb (at + length t) (length old) h in
-      (p ∙ rw e, q ∙ rw e)
+  text-put h = let e = le-leb (at + length t) (length old) h in (rw e, rw e)
 
-  -- and one behind it
-  pub written-next : (t u before buf : List ℕ) (pos r : ℕ) → (pos ≡ at + length t) × (before ≡ sets old at t) → at + length (t ++ u) ≤ length old
-      → r ≡ writtenTo before pos u → buf ≡ written before pos u
-      → (r ≡ at + length (t ++ u)) × (buf ≡ sets old at (t ++ u))
-  unfolding written writtenTo
-  written-next t u before buf pos r s h p q =
-      let n : length (t ++ u) ≡ length t + length u = length-append t u in
-      let l : length before ≡ length old = ap length (s .1) ∙ length-sets old at t in
-      let e = le-leb (pos + length u) (length before) (omega (arith, s .0, n, l)) in
-      let g : pos + length u ≡ at + length (t ++ u) = omega (arith, s .0, n) in
-      (p ∙ rw e g, q ∙ rw e (rw (s .1, s .0) (sym (sets-append t u old at))))
+-- lines that fit are the text of all of them
+pub lines-put : (ks : List Kind) (vs old : List ℕ) (at : ℕ) → at + length (linesText ks vs) ≤ length old
+    → linesPut ks vs old at ≡ record { buffer = sets old at (linesText ks vs); at = at + length (linesText ks vs) }
+unfolding linesPut linesText
+lines-put [] vs old at h = ap (λ (n : ℕ). record { buffer = old; at = n }) (sym (add-zero at))
+lines-put (k ∷ ks) [] old at h = ap (λ (n : ℕ). record { buffer = old; at = n }) (sym (add-zero at))
+lines-put (k ∷ ks) (v ∷ vs) old at h =
+    let t = lineText k v in
+    let u = linesText ks vs in
+    let n : length (t ++ u) ≡ length t + length u = length-append t u in
+    let one = text-put t old at (omega (arith, h, n)) in
+    let rest = lines-put ks vs (sets old at t) (at + length t) (omega (arith, h, n, length-sets old at t)) in
+    ap (λ (b : List ℕ). linesPut ks vs b (writtenTo old at t)) (one .1)
+    ∙ ap (linesPut ks vs (sets old at t)) (one .0)
+    ∙ rest
+    ∙ ap (λ (b : List ℕ). record { buffer = b; at = at + length t + length u }) (sym (sets-append t u old at))
+    ∙ ap (λ (m : ℕ). record { buffer = sets old at (t ++ u); at = m }) (add-assoc at (length t) (length u) ∙ ap (λ (m : ℕ). at + m) (sym n))
+
+-- lines of two groups
+pub lines-grouped : (ks ls : List Kind) (vs ws old : List ℕ) (at : ℕ) → length ks ≡ length vs
+    → linesPut (ks ++ ls) (vs ++ ws) old at ≡ linesPut ls ws (linesPut ks vs old at .buffer) (linesPut ks vs old at .at)
+unfolding linesPut
+lines-grouped [] ls [] ws old at e = refl
+lines-grouped [] ls (v ∷ vs) ws old at e = absurd (omega (arith, e))
+lines-grouped (k ∷ ks) ls [] ws old at e = absurd (omega (arith, e))
+lines-grouped (k ∷ ks) ls (v ∷ vs) ws old at e = lines-grouped ks ls vs ws (written old at (lineText k v)) (writtenTo old at (lineText k v)) (omega (arith, e))

@@ -7,29 +7,20 @@ ghost use lib.Seq.{sets};
 ghost use Rattle.format.specs.Sheet.{sheetText};
 ghost use Rattle.format.specs.Report.{report, outcome, buffer};
 ghost use Rattle.plan.specs.Inside.{answersText};
+use codes::DONE;
+use codes::NO_ROOM;
+use codes::wide;
 use credentials::Credentials;
 use format::Outcome;
 use line_writer::decimal_length;
 use line_writer::write_decimal;
 use line_writer::write_hex;
 
-// What comes back: done, no room in the buffer.
-const DONE: u8 = 0;
-
-const NO_ROOM: u8 = 28;
-
 // How many hex digits a value has.
 const VALUE_DIGITS: u8 = 16;
 
 // The length of a result's two lines without the digits of its code.
 const FIXED_LENGTH: usize = 29;
-
-// A byte as a number of 64 bits.
-fn wide(x: u8) -> u64
-    ensures { λ r. ⌜ r ≡ x ⌝ }
-{
-    x as u64
-}
 
 // How long the lines of the first count results are.
 fn results_length(codes: &[u8; 256], values: &[u64; 256], count: usize) -> usize

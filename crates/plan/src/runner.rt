@@ -9,15 +9,12 @@ use crate::STEP_LINES;
 use crate::report::write_report;
 use crate::step::StepRun;
 use crate::step::run_step;
+use codes::INVALID_CREDENTIALS;
+use codes::MALFORMED;
 use credentials::Credentials;
 use credentials::is_valid;
 use format::Outcome;
 use sheet_reader::Front;
-
-// What comes back for a plan that is refused: malformed text, credentials that are not valid.
-const MALFORMED: u8 = 70;
-
-const INVALID: u8 = 72;
 
 // How many steps there are and what the last one leaves, or the first line of the steps that is at fault.
 pub enum StepsRun {
@@ -88,7 +85,7 @@ pub fn run_plan(plan: &[u8], report: &mut [u8]) -> Outcome
                         return write_report(report, &codes, &values, count, last);
                     }
                     return Outcome {
-                        code: INVALID,
+                        code: INVALID_CREDENTIALS,
                         line: 0,
                         length: 0,
                     };

@@ -6,6 +6,11 @@ ghost use Rattle.format.specs.Step.{stepKinds, readStep};
 ghost use Rattle.rules.specs.Run.{result};
 ghost use Rattle.plan.specs.Inside.{seenOperands, OperandsEnd, resultOf, seenStep, StepEnd};
 use crate::STEP_LINES;
+use codes::DONE;
+use codes::INVALID_ARGUMENT;
+use codes::INVALID_CREDENTIALS;
+use codes::NOT_PERMITTED;
+use codes::UNREADABLE_ATTRIBUTE;
 use credentials::Credentials;
 use line_reader::Line;
 use line_reader::read_attribute;
@@ -15,17 +20,6 @@ use rules::Answer;
 
 // The largest call number that can be written.
 const LARGEST_CALL: u32 = 99;
-
-// The numbers that come back from a call.
-const DONE: u8 = 0;
-
-const NOT_PERMITTED: u8 = 1;
-
-const INVALID_ARGUMENT: u8 = 22;
-
-const UNREADABLE_ATTRIBUTE: u8 = 60;
-
-const INVALID_CREDENTIALS: u8 = 72;
 
 // A step's first four lines.
 pub struct Operands {

@@ -6,3 +6,4 @@ pub mod KeptSecurebits
 pub mod KeptCalls
 pub mod OneLaunch
 pub mod Demand3
+pub mod Flags

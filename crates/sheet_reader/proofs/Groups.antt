@@ -2,75 +2,72 @@
 use native.Mathlib.Omega.{arith}
 use native.Mathlib.Nat.{zero-add}
 use mathlib.Core.Path.{_≡_, refl, sym, ap, _∙_}
+use mathlib.Core.Bool.{Bool, true, false, cond}
 use mathlib.Core.List.{List, [], _∷_, _++_}
-use Prim.Native.Nat.{ℕ, suc, _+_, _-_, _≤_}
+use Prim.Native.Nat.{ℕ, _+_, _-_, _<_, _≤_, _^_}
 use lib.Dec.{eqb}
 use lib.ListN.{length, drop}
-use lib.Seq.{sets}
+use Rattle.credentials.specs.Validity.{valid}
 use Rattle.credentials.specs.declared.Ids.{Ids}
 use Rattle.credentials.specs.declared.Sets.{Sets}
-use Rattle.format.specs.Line.{Kind, Read, read, faultAt, next, below, mapped, readLine, readLines}
-use Rattle.format.specs.Sheet.{idKinds, setKinds, flagKinds, sheetKinds, readFront, idValues, setValues}
+use Rattle.credentials.specs.declared.Credentials.{Credentials}
+use Rattle.format.specs.Line.{Read, read, faultAt, below, mapped, readLines}
+use Rattle.format.specs.Sheet.{idKinds, setKinds, flagKinds, sheetKinds, credentialsOf, readFront, idValues, setValues}
+use Rattle.line_reader.specs.declared.Place.{Place}
+use Rattle.line_reader.specs.Inside.{Values, linesAt, seen}
+use Rattle.line_reader.proofs.Answers.{lines-seen, lines-grouped, lines-within}
 use Rattle.line_reader.proofs.LineLaws.{position}
-use Rattle.sheet_reader.specs.declared.Front.the-variants.{Sheet, Fault}
-use Rattle.sheet_reader.specs.Positions.{frontOf}
+use Rattle.sheet_reader.specs.declared.Front.the-variants.{Sheet, Invalid, Fault}
+use Rattle.sheet_reader.specs.Positions.{placedFront, frontOf}
 
-none-before : (r : Read (List ℕ)) → r ≡ below 0 (mapped (λ ws. [] ++ ws) r)
-none-before (read ws t) = refl
-none-before (faultAt line) = ap faultAt (sym (zero-add line))
+-- the start of a text
+abbrev pub start : Place
+start = record { at = 0; lines = 0; fault = false }
 
-last-group : (n v : ℕ) (ws : List ℕ) (r : Read (List ℕ))
-    → below 1 (mapped (λ us. v ∷ us) (below n (mapped (λ us. ws ++ us) r))) ≡ below (suc n) (mapped (λ us. (v ∷ ws) ++ us) r)
-last-group n v ws (read us t) = refl
-last-group n v ws (faultAt line) = let e : 1 + (n + line) ≡ suc n + line = omega arith in ap faultAt e
+below-none : {A : Type 0} (r : Read A) → below 0 r ≡ r
+below-none (read v t) = refl
+below-none (faultAt line) = ap faultAt (zero-add line)
 
-one-more : (n v : ℕ) (r : Read (List ℕ)) (f : List ℕ → Read (List ℕ))
-    → below 1 (mapped (λ us. v ∷ us) (next n r (λ ws t. mapped (λ us. ws ++ us) (f t))))
-    ≡ next (suc n) (below 1 (mapped (λ us. v ∷ us) r)) (λ ws t. mapped (λ us. ws ++ us) (f t))
-one-more n v (read ws t) f = last-group n v ws (f t)
-one-more n v (faultAt line) f = refl
+mapped-choice : {A B : Type 0} (f : A → B) (t : Bool) (line : ℕ) (v : A) (rest : List ℕ) → mapped f (cond t (faultAt line) (read v rest)) ≡ cond t (faultAt line) (read (f v) rest)
+mapped-choice f true line v rest = refl
+mapped-choice f false line v rest = refl
 
-first-line : (n : ℕ) (r : Read ℕ) (f g h : List ℕ → Read (List ℕ)) → ((t : List ℕ) → f t ≡ next n (g t) (λ ws u. mapped (λ us. ws ++ us) (h u)))
-    → next 1 r (λ v t. mapped (λ us. v ∷ us) (f t))
-    ≡ next (suc n) (next 1 r (λ v t. mapped (λ us. v ∷ us) (g t))) (λ ws u. mapped (λ us. ws ++ us) (h u))
-first-line n (read v t) f g h e = rw (e t) (one-more n v (g t) h)
-first-line n (faultAt line) f g h e = refl
+module _ (text : List ℕ) (u : Ids) (s : Sets) (securebits nnp : ℕ) (p q end : Place)
+    (ids : linesAt idKinds text start ≡ record { values = idValues u; place = p })
+    (sets : linesAt setKinds text p ≡ record { values = setValues s; place = q })
+    (flags : linesAt flagKinds text q ≡ record { values = securebits ∷ nnp ∷ []; place = end }) where
+  -- the credentials of the lines' values
+  abbrev pub held : Credentials
+  held = record { uids = u; sets = s; securebits = securebits; nnp = eqb nnp 1 }
 
--- lines of two groups
-lines-grouped : (ks ls : List Kind) (t : List ℕ)
-    → readLines (ks ++ ls) t ≡ next (length ks) (readLines ks t) (λ vs rest. mapped (λ ws. vs ++ ws) (readLines ls rest))
-unfolding readLines
-lines-grouped [] ls t = none-before (readLines ls t)
-lines-grouped (k ∷ ks) ls t =
-    first-line (length ks) (readLine k t) (readLines (ks ++ ls)) (readLines ks) (readLines ls) (lines-grouped ks ls)
+  grouped : linesAt sheetKinds text start ≡ record { values = idValues u ++ (setValues s ++ (securebits ∷ nnp ∷ [])); place = end }
+  unfolding sheetKinds
+  grouped =
+      lines-grouped idKinds (setKinds ++ flagKinds) text start
+      ∙ rw (ids, lines-grouped setKinds flagKinds text p, sets, flags)
 
--- the lines of a sheet
-sheet-grouped : (t : List ℕ) → readLines sheetKinds t
-    ≡ next 4 (readLines idKinds t) (λ us rest. mapped (λ ws. us ++ ws) (next 5 (readLines setKinds rest) (λ ss end. mapped (λ ws. ss ++ ws) (readLines flagKinds end))))
-unfolding sheetKinds idKinds setKinds
-sheet-grouped t =
-    lines-grouped idKinds (setKinds ++ flagKinds) t
-    ∙ ap (λ (f : List ℕ → Read (List ℕ)). next 4 (readLines idKinds t) (λ us rest. mapped (λ ws. us ++ ws) (f rest))) (λ i u. lines-grouped setKinds flagKinds u i)
+  front : readFront text ≡ cond (end .fault) (faultAt (end .lines)) (read held (drop (end .at) text))
+  unfolding readFront sheetKinds idKinds setKinds flagKinds
+  front =
+      ap (mapped credentialsOf)
+      (sym (below-none (readLines sheetKinds text)) ∙ lines-seen sheetKinds text start refl (omega arith) ∙ ap (λ (v : Values). seen v text) grouped)
+      ∙ mapped-choice credentialsOf (end .fault) (end .lines) _ (drop (end .at) text)
 
-module _ (text : List ℕ) where
-  pub ids-at-fault : (line : ℕ) → readLines idKinds text ≡ faultAt line → frontOf text ≡ Fault line
-  unfolding frontOf readFront
-  ids-at-fault line h = rw (sheet-grouped text, h)
+  within : end .at ≤ length text
+  within = rw grouped at (lines-within text sheetKinds start (omega arith) .0)
 
-  pub sets-at-fault : (us rest : List ℕ) (line : ℕ) → readLines idKinds text ≡ read us rest → readLines setKinds rest ≡ faultAt line → frontOf text ≡ Fault (4 + line)
-  unfolding frontOf readFront
-  sets-at-fault us rest line h g = rw (sheet-grouped text, h, g)
+  pub front-at-fault : end .fault ≡ true → Fault (end .lines) ≡ frontOf text
+  unfolding frontOf
+  front-at-fault h = sym (ap (placedFront text) (front ∙ ap (λ (t : Bool). cond t (faultAt (end .lines)) (read held (drop (end .at) text))) h))
 
-  pub flags-at-fault : (us rest ss end : List ℕ) (line : ℕ) → readLines idKinds text ≡ read us rest → readLines setKinds rest ≡ read ss end
-      → readLines flagKinds end ≡ faultAt line → frontOf text ≡ Fault (9 + line)
-  unfolding frontOf readFront
-  flags-at-fault us rest ss end line h g k =
-      let e : 4 + (5 + line) ≡ 9 + line = omega arith in
-      rw (sheet-grouped text, h, g, k) (ap Fault e)
+  front-read : end .fault ≡ false → frontOf text ≡ cond (valid held) (Sheet held (end .at)) (Invalid held (end .at))
+  unfolding frontOf
+  front-read h =
+      ap (placedFront text) (front ∙ ap (λ (t : Bool). cond t (faultAt (end .lines)) (read held (drop (end .at) text))) h)
+      ∙ ap (λ (n : ℕ). cond (valid held) (Sheet held n) (Invalid held n)) (position text (end .at) within)
 
-  pub front-read : (u : Ids) (rest : List ℕ) (s : Sets) (end : List ℕ) (securebits nnp past : ℕ) → readLines idKinds text ≡ read (idValues u) rest
-      → readLines setKinds rest ≡ read (setValues s) end → readLines flagKinds end ≡ read (securebits ∷ nnp ∷ []) (drop past text) → past ≤ length text
-      → frontOf text ≡ Sheet (record { uids = u; sets = s; securebits = securebits; nnp = eqb nnp 1 }) past
-  unfolding frontOf readFront
-  front-read u rest s end securebits nnp past h g k l =
-      rw (sheet-grouped text, h, g, k) (ap (Sheet (record { uids = u; sets = s; securebits = securebits; nnp = eqb nnp 1 })) (position text past l))
+  pub front-valid : end .fault ≡ false → true ≡ valid held → Sheet held (end .at) ≡ frontOf text
+  front-valid h v = ap (λ (t : Bool). cond t (Sheet held (end .at)) (Invalid held (end .at))) v ∙ sym (front-read h)
+
+  pub front-invalid : end .fault ≡ false → false ≡ valid held → Invalid held (end .at) ≡ frontOf text
+  front-invalid h v = ap (λ (t : Bool). cond t (Sheet held (end .at)) (Invalid held (end .at))) v ∙ sym (front-read h)

@@ -1,8 +1,8 @@
 -- What the front of a text tells of the text as a whole sheet. Assumes nothing.
 use native.Mathlib.Omega.{arith}
-use mathlib.Core.Path.{_≡_, refl, sym, ap}
+use mathlib.Core.Path.{_≡_, refl, sym, ap, subst, _∙_}
 use mathlib.Core.List.{List, _∷_}
-use mathlib.Core.Bool.{cond}
+use mathlib.Core.Bool.{Bool, true, false, cond}
 use Prim.Native.Nat.{ℕ, _-_, _<_, _≤_}
 use lib.ListN.{length, drop, drop-of-length-le, length-append}
 use lib.Seq.{drop-cons}
@@ -13,7 +13,7 @@ use Rattle.format.specs.Sheet.{idKinds, setKinds, flagKinds, sheetKinds, sheetT
 use Rattle.format.specs.declared.SheetReading.the-variants as reading
 use Rattle.format.proofs.Sheets.{front-written}
 use Rattle.line_reader.proofs.Answers.{rest-at, some-line}
-use Rattle.sheet_reader.specs.declared.Front.the-variants.{Sheet, Fault}
+use Rattle.sheet_reader.specs.declared.Front.the-variants.{Sheet, Invalid, Fault}
 use Rattle.sheet_reader.specs.Positions.{placedFront, frontOf}
 
 -- lines are not empty, and so no sheet is
@@ -25,41 +25,76 @@ sheet-some : (c : Credentials) → 0 < length (sheetText c)
 unfolding sheetText sheetKinds idKinds
 sheet-some c = lines-some _ _ _ _
 
-module _ (text : List ℕ) where
-  told : (r : Read Credentials) (c : Credentials) (past : ℕ) → readFront text ≡ r → placedFront text r ≡ Sheet c past
-      → (r ≡ read c (drop past text)) × (past ≤ length text)
-  told (read d rest) c past e h =
-      let p : d ≡ c = cc in
-      let q : length text - length rest ≡ past = cc in
-      let k = front-written d text rest e in
-      let s = rest-at text (sheetText d) rest 0 (k .0) (sheet-some d) in
-      rw (← p, ← q) (ap (read d) (sym s), omega arith)
-  told (faultAt line) c past e h = let z : _≡_ {A = ℕ} 0 1 = cc in absurd (omega arith)
+-- what the front of a text tells: what was read, up to the position
+pub record Told (text : List ℕ) (c : Credentials) (past : ℕ) (v : Bool) : Type 0 where
+  pub is : readFront text ≡ read c (drop past text)
+  pub within : past ≤ length text
+  pub validity : valid c ≡ v
 
-  -- a text that begins with a sheet
-  pub front-told : (c : Credentials) (past : ℕ) → frontOf text ≡ Sheet c past → (readFront text ≡ read c (drop past text)) × (past ≤ length text)
-  unfolding frontOf
-  front-told c past h = told (readFront text) c past refl h
+module _ (text : List ℕ) where
+  read-told : (c : Credentials) (rest : List ℕ) (past : ℕ) (v : Bool) → readFront text ≡ read c rest → length text - length rest ≡ past → valid c ≡ v → Told text c past v
+  read-told c rest past v e q h =
+      let k = front-written c text rest e in
+      let s = rest-at text (sheetText c) rest 0 (k .0) (sheet-some c) in
+      record { is = e ∙ ap (read c) (sym s ∙ ap (λ (n : ℕ). drop n text) q); within = omega (arith, q); validity = h }
+
+  -- which case it is decides on validity
+  cased : (t : Bool) (d : Credentials) (n : ℕ) (c : Credentials) (past : ℕ) → cond t (Sheet d n) (Invalid d n) ≡ Sheet c past → (t ≡ true) × (d ≡ c) × (n ≡ past)
+  cased true d n c past h = (refl, cc, cc)
+  cased false d n c past h = let z : _≡_ {A = ℕ} 0 1 = cc in absurd (omega arith)
+
+  cased-not : (t : Bool) (d : Credentials) (n : ℕ) (c : Credentials) (past : ℕ) → cond t (Sheet d n) (Invalid d n) ≡ Invalid c past → (t ≡ false) × (d ≡ c) × (n ≡ past)
+  cased-not true d n c past h = let z : _≡_ {A = ℕ} 0 1 = cc in absurd (omega arith)
+  cased-not false d n c past h = (refl, cc, cc)
+
+  cased-fault : {B : Type 0} (t : Bool) (d : Credentials) (n line : ℕ) → cond t (Sheet d n) (Invalid d n) ≡ Fault line → B
+  cased-fault true d n line h = let z : _≡_ {A = ℕ} 0 1 = cc in absurd (omega arith)
+  cased-fault false d n line h = let z : _≡_ {A = ℕ} 0 1 = cc in absurd (omega arith)
+
+  valid-told : (r : Read Credentials) (c : Credentials) (past : ℕ) → readFront text ≡ r → placedFront text r ≡ Sheet c past → Told text c past true
+  valid-told (read d rest) c past e h =
+      let t = cased (valid d) d (length text - length rest) c past h in
+      subst (λ (x : Credentials). Told text x past true) (t .1) (read-told d rest past true e (t .2) (t .0))
+  valid-told (faultAt line) c past e h = let z : _≡_ {A = ℕ} 0 1 = cc in absurd (omega arith)
+
+  invalid-told : (r : Read Credentials) (c : Credentials) (past : ℕ) → readFront text ≡ r → placedFront text r ≡ Invalid c past → Told text c past false
+  invalid-told (read d rest) c past e h =
+      let t = cased-not (valid d) d (length text - length rest) c past h in
+      subst (λ (x : Credentials). Told text x past false) (t .1) (read-told d rest past false e (t .2) (t .0))
+  invalid-told (faultAt line) c past e h = let z : _≡_ {A = ℕ} 0 1 = cc in absurd (omega arith)
 
   fault-told : (r : Read Credentials) (line : ℕ) → placedFront text r ≡ Fault line → r ≡ faultAt line
-  fault-told (read d rest) line h = let z : _≡_ {A = ℕ} 0 1 = cc in absurd (omega arith)
+  fault-told (read d rest) line h = cased-fault (valid d) d (length text - length rest) line h
   fault-told (faultAt n) line h = let p : n ≡ line = cc in ap faultAt p
+
+  -- a text that begins with a sheet
+  pub front-told : (c : Credentials) (past : ℕ) → frontOf text ≡ Sheet c past → Told text c past true
+  unfolding frontOf
+  front-told c past h = valid-told (readFront text) c past refl h
+
+  -- with one that is not valid
+  pub front-told-invalid : (c : Credentials) (past : ℕ) → frontOf text ≡ Invalid c past → Told text c past false
+  unfolding frontOf
+  front-told-invalid c past h = invalid-told (readFront text) c past refl h
 
   -- and one that does not
   pub front-fault : (line : ℕ) → frontOf text ≡ Fault line → readFront text ≡ faultAt line
   unfolding frontOf
   front-fault line h = fault-told (readFront text) line h
 
-  pub sheet-fault : (line : ℕ) → frontOf text ≡ Fault line → readSheet text ≡ reading.Malformed line
+  pub sheet-fault : (line : ℕ) → frontOf text ≡ Fault line → reading.Malformed line ≡ readSheet text
   unfolding readSheet
   sheet-fault line h = rw (front-fault line h)
 
   -- text past the sheet
-  pub sheet-longer : (c : Credentials) (past : ℕ) → frontOf text ≡ Sheet c past → past < length text → readSheet text ≡ reading.Malformed 12
+  pub sheet-longer : (c : Credentials) (past : ℕ) (v : Bool) → Told text c past v → past < length text → reading.Malformed 12 ≡ readSheet text
   unfolding readSheet sheetKinds idKinds setKinds flagKinds
-  sheet-longer c past h g = rw (front-told c past h .0, drop-cons text past 0 g)
+  sheet-longer c past v t g = rw (t .is, drop-cons text past 0 g)
 
-  pub sheet-whole : (c : Credentials) (past : ℕ) → frontOf text ≡ Sheet c past → length text ≤ past
-      → readSheet text ≡ cond (valid c) (reading.Sheet c) reading.Invalid
+  pub sheet-whole : (c : Credentials) (past : ℕ) → Told text c past true → length text ≤ past → reading.Sheet c ≡ readSheet text
   unfolding readSheet
-  sheet-whole c past h g = rw (front-told c past h .0, drop-of-length-le text g)
+  sheet-whole c past t g = rw (t .is, drop-of-length-le text g, t .validity)
+
+  pub sheet-invalid : (c : Credentials) (past : ℕ) → Told text c past false → length text ≤ past → reading.Invalid ≡ readSheet text
+  unfolding readSheet
+  sheet-invalid c past t g = rw (t .is, drop-of-length-le text g, t .validity)

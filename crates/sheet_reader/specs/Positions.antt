@@ -1,16 +1,18 @@
 -- The sheet at the start of a text: what its reader answers where more text may follow. Assumes nothing.
 use Prim.Native.Nat.{ℕ, _-_}
+use mathlib.Core.Bool.{cond}
 use mathlib.Core.List.{List}
 use lib.ListN.{length}
+use Rattle.credentials.specs.Validity.{valid}
 use Rattle.credentials.specs.declared.Credentials.{Credentials}
 use Rattle.format.specs.Line.{Read, read, faultAt}
 use Rattle.format.specs.Sheet.{readFront}
 use Rattle.sheet_reader.specs.declared.Front.{Front}
-use Rattle.sheet_reader.specs.declared.Front.the-variants.{Sheet, Fault}
+use Rattle.sheet_reader.specs.declared.Front.the-variants.{Sheet, Invalid, Fault}
 
--- what was read, with the position of the text after it
+-- what was read, with the position of the text after it: valid credentials, or others
 abbrev pub placedFront : List ℕ → Read Credentials → Front
-placedFront text (read c rest) = Sheet c (length text - length rest)
+placedFront text (read c rest) = cond (valid c) (Sheet c (length text - length rest)) (Invalid c (length text - length rest))
 placedFront text (faultAt line) = Fault line
 
 unfoldable pub frontOf : List ℕ → Front

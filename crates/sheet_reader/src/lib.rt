@@ -3,17 +3,19 @@
 // The sheet itself is defined in the crate `format`. Every function is proved, for every argument: no public one has a `requires`. The crate
 // assumes nothing.
 ghost use mathlib.Core.Path.{_≡_};
-ghost use lib.ListN.{drop};
-ghost use Rattle.format.specs.Line.{readLines};
-ghost use Rattle.format.specs.Sheet.{idKinds, setKinds, flagKinds, readSheet};
+ghost use mathlib.Core.List.{[], _∷_};
+ghost use Rattle.format.specs.Sheet.{idKinds, setKinds, flagKinds, idValues, setValues, readSheet, sheetCode, sheetLine};
+ghost use Rattle.line_reader.specs.Inside.{linesAt};
 ghost use Rattle.sheet_reader.specs.Positions.{frontOf};
-ghost use Rattle.sheet_reader.specs.Inside.{seenIds, seenSets, seenFlags, SetsEnd, FlagsEnd};
+use codes::DONE;
+use codes::INVALID_CREDENTIALS;
+use codes::MALFORMED;
 use credentials::Credentials;
 use credentials::Ids;
 use credentials::Sets;
 use credentials::is_valid;
 use format::SheetReading;
-use line_reader::Line;
+use line_reader::Place;
 use line_reader::read_decimal;
 use line_reader::read_hex2;
 use line_reader::read_hex16;
@@ -23,132 +25,116 @@ const LARGEST_WRITTEN_ID: u32 = 4294967295;
 
 const LARGEST_FLAG: u32 = 1;
 
-// How many lines the IDs, the sets and the whole sheet have.
-const ID_LINES: u32 = 4;
-
-const SET_LINES: u32 = 5;
-
+// How many lines a sheet has.
 const SHEET_LINES: u32 = 11;
 
-// The lines of a sheet at the start of a text: its credentials, valid or not, and the position past them, or the line of the first fault.
+// The sheet at the start of a text: its credentials and the position past it, told apart by whether they are valid; or the line of the first
+// fault.
 pub enum Front {
     Sheet(Credentials, usize),
+    Invalid(Credentials, usize),
     Fault(u32),
 }
 
-// The IDs and the position past their lines, or the first of them that is at fault.
-pub enum IdLines {
-    Are(Ids, usize),
-    Fault(u32),
+// The IDs, and the place past their lines.
+struct IdLines {
+    ids: Ids,
+    place: Place,
 }
 
-// The sets and the position past their lines, or the first of them that is at fault.
-pub enum SetLines {
-    Are(Sets, usize),
-    Fault(u32),
+// The sets, and the place past their lines.
+struct SetLines {
+    sets: Sets,
+    place: Place,
 }
 
-// Securebits, no-new-privs and the position past their lines, or the first of them that is at fault.
-pub enum FlagLines {
-    Are(u64, u64, usize),
-    Fault(u32),
+// Securebits and no-new-privs, and the place past their lines.
+struct FlagLines {
+    securebits: u64,
+    nnp: u64,
+    place: Place,
 }
 
-// The lines of the user IDs at the position at.
-fn read_ids(text: &[u8], at: usize) -> IdLines
-    ensures { λ r. ⌜ seenIds r (now (text .entry)) ≡ readLines idKinds (drop at (now (text .entry))) ⌝ }
+// The lines of the user IDs at a place.
+fn read_ids(text: &[u8], place: Place) -> IdLines
+    ensures { λ r. ⌜ linesAt idKinds (now (text .entry)) place ≡ record { values = idValues (r .ids); place = r .place } ⌝ }
 {
-    let Line::Is(real, p) = read_decimal(text, at, b"ruid=", LARGEST_WRITTEN_ID) else {
-        return IdLines::Fault(1);
-    };
-    let Line::Is(effective, q) = read_decimal(text, p, b"euid=", LARGEST_WRITTEN_ID) else {
-        return IdLines::Fault(2);
-    };
-    let Line::Is(saved, u) = read_decimal(text, q, b"suid=", LARGEST_WRITTEN_ID) else {
-        return IdLines::Fault(3);
-    };
-    let Line::Is(filesystem, next) = read_decimal(text, u, b"fsuid=", LARGEST_WRITTEN_ID) else {
-        return IdLines::Fault(4);
-    };
+    let real = read_decimal(text, place, b"ruid=", LARGEST_WRITTEN_ID);
+    let effective = read_decimal(text, real.place, b"euid=", LARGEST_WRITTEN_ID);
+    let saved = read_decimal(text, effective.place, b"suid=", LARGEST_WRITTEN_ID);
+    let filesystem = read_decimal(text, saved.place, b"fsuid=", LARGEST_WRITTEN_ID);
     let ids = Ids {
-        real,
-        effective,
-        saved,
-        filesystem,
+        real: real.value,
+        effective: effective.value,
+        saved: saved.value,
+        filesystem: filesystem.value,
     };
-    IdLines::Are(ids, next)
+    let place = filesystem.place;
+    IdLines { ids, place }
 }
 
-// The lines of the capability sets at the position at.
-fn read_sets(text: &[u8], at: usize) -> SetLines
-    ensures { λ r. ⌜ (seenSets r (now (text .entry)) ≡ readLines setKinds (drop at (now (text .entry)))) × SetsEnd r (now (text .entry)) ⌝ }
+// The lines of the capability sets at a place.
+fn read_sets(text: &[u8], place: Place) -> SetLines
+    ensures { λ r. ⌜ linesAt setKinds (now (text .entry)) place ≡ record { values = setValues (r .sets); place = r .place } ⌝ }
 {
-    let Line::Is(permitted, p) = read_hex16(text, at, b"permitted=") else {
-        return SetLines::Fault(1);
-    };
-    let Line::Is(inheritable, q) = read_hex16(text, p, b"inheritable=") else {
-        return SetLines::Fault(2);
-    };
-    let Line::Is(effective, u) = read_hex16(text, q, b"effective=") else {
-        return SetLines::Fault(3);
-    };
-    let Line::Is(bounding, v) = read_hex16(text, u, b"bounding=") else {
-        return SetLines::Fault(4);
-    };
-    let Line::Is(ambient, next) = read_hex16(text, v, b"ambient=") else {
-        return SetLines::Fault(5);
-    };
+    let permitted = read_hex16(text, place, b"permitted=");
+    let inheritable = read_hex16(text, permitted.place, b"inheritable=");
+    let effective = read_hex16(text, inheritable.place, b"effective=");
+    let bounding = read_hex16(text, effective.place, b"bounding=");
+    let ambient = read_hex16(text, bounding.place, b"ambient=");
     let sets = Sets {
-        permitted,
-        inheritable,
-        effective,
-        bounding,
-        ambient,
+        permitted: permitted.value,
+        inheritable: inheritable.value,
+        effective: effective.value,
+        bounding: bounding.value,
+        ambient: ambient.value,
     };
-    SetLines::Are(sets, next)
+    let place = ambient.place;
+    SetLines { sets, place }
 }
 
-// The lines of securebits and no-new-privs at the position at.
-fn read_flags(text: &[u8], at: usize) -> FlagLines
-    ensures { λ r. ⌜ (seenFlags r (now (text .entry)) ≡ readLines flagKinds (drop at (now (text .entry)))) × FlagsEnd r (now (text .entry)) ⌝ }
+// The lines of securebits and no-new-privs at a place.
+fn read_flags(text: &[u8], place: Place) -> FlagLines
+    ensures { λ r. ⌜ linesAt flagKinds (now (text .entry)) place ≡ record { values = r .securebits ∷ r .nnp ∷ []; place = r .place } ⌝ }
 {
-    let Line::Is(securebits, p) = read_hex2(text, at, b"securebits=") else {
-        return FlagLines::Fault(1);
-    };
-    let Line::Is(nnp, next) = read_decimal(text, p, b"nnp=", LARGEST_FLAG) else {
-        return FlagLines::Fault(2);
-    };
-    FlagLines::Are(securebits, nnp, next)
+    let securebits = read_hex2(text, place, b"securebits=");
+    let nnp = read_decimal(text, securebits.place, b"nnp=", LARGEST_FLAG);
+    let place = nnp.place;
+    FlagLines {
+        securebits: securebits.value,
+        nnp: nnp.value,
+        place,
+    }
 }
 
 // The sheet at the start of a text.
 pub fn read_front(text: &[u8]) -> Front
     ensures { λ r. ⌜ r ≡ frontOf (now (text .entry)) ⌝ }
 {
-    match read_ids(text, 0) {
-        IdLines::Fault(line) => {
-            return Front::Fault(line);
-        }
-        IdLines::Are(uids, p) => match read_sets(text, p) {
-            SetLines::Fault(line) => {
-                return Front::Fault(ID_LINES + line);
-            }
-            SetLines::Are(sets, q) => match read_flags(text, q) {
-                FlagLines::Fault(line) => {
-                    return Front::Fault(ID_LINES + SET_LINES + line);
-                }
-                FlagLines::Are(securebits, nnp, next) => {
-                    let read = Credentials {
-                        uids,
-                        sets,
-                        securebits,
-                        nnp: nnp == 1,
-                    };
-                    return Front::Sheet(read, next);
-                }
-            },
-        },
+    let start = Place {
+        at: 0,
+        lines: 0,
+        fault: false,
+    };
+    let ids = read_ids(text, start);
+    let held = read_sets(text, ids.place);
+    let flags = read_flags(text, held.place);
+    let end = flags.place;
+    if end.fault {
+        return Front::Fault(end.lines);
     }
+    let uids = ids.ids;
+    let sets = held.sets;
+    let read = Credentials {
+        uids,
+        sets,
+        securebits: flags.securebits,
+        nnp: flags.nnp == 1,
+    };
+    if is_valid(read) {
+        return Front::Sheet(read, end.at);
+    }
+    Front::Invalid(read, end.at)
 }
 
 // A text that is to be a sheet and nothing more.
@@ -159,14 +145,39 @@ pub fn read_sheet(text: &[u8]) -> SheetReading
         Front::Fault(line) => {
             return SheetReading::Malformed(line);
         }
-        Front::Sheet(read, next) => {
-            if next < text.len() {
+        Front::Invalid(_, end) => {
+            if end < text.len() {
                 return SheetReading::Malformed(SHEET_LINES + 1);
-            }
-            if is_valid(read) {
-                return SheetReading::Sheet(read);
             }
             return SheetReading::Invalid;
         }
+        Front::Sheet(read, end) => {
+            if end < text.len() {
+                return SheetReading::Malformed(SHEET_LINES + 1);
+            }
+            return SheetReading::Sheet(read);
+        }
+    }
+}
+
+// The code of a sheet's reading: 0, 70 where the text is malformed, 72 where the credentials are not valid.
+pub fn sheet_code(answer: SheetReading) -> u8
+    ensures { λ r. ⌜ r ≡ sheetCode answer ⌝ }
+{
+    match answer {
+        SheetReading::Sheet(_) => DONE,
+        SheetReading::Malformed(_) => MALFORMED,
+        SheetReading::Invalid => INVALID_CREDENTIALS,
+    }
+}
+
+// The line of a sheet's reading, which is 0 but for a malformed text.
+pub fn sheet_line(answer: SheetReading) -> u32
+    ensures { λ r. ⌜ r ≡ sheetLine answer ⌝ }
+{
+    match answer {
+        SheetReading::Sheet(_) => 0,
+        SheetReading::Malformed(line) => line,
+        SheetReading::Invalid => 0,
     }
 }

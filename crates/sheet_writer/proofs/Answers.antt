@@ -3,34 +3,52 @@ use native.Mathlib.Omega.{arith}
 use native.Mathlib.Nat.{zero-add}
 use mathlib.Core.Path.{_≡_, refl, ap, _∙_}
 use mathlib.Core.List.{List}
-use mathlib.Core.Bool.{true, false}
+use mathlib.Core.Bool.{Bool, true, false, cond, _&&_}
 use Prim.Native.Nat.{ℕ, _+_, _-_, _<_, _≤_}
-use borrow.Author.Tests.{le-leb, lt-leb}
-use lib.ListN.{length}
-use lib.Seq.{sets-eq}
+use borrow.Author.Tests.{le-leb, lt-leb, leb-true}
+use lib.Dec.{leb}
+use lib.ListN.{length, drop}
+use lib.Seq.{sets, sets-eq}
+use Rattle.attribute.specs.Writer.{refused}
 use Rattle.attribute.specs.declared.Written.{Written}
 use Rattle.credentials.specs.Validity.{valid}
 use Rattle.credentials.specs.declared.Credentials.{Credentials}
-use Rattle.format.specs.Sheet.{sheetText, sheetAnswer, sheetBuffer}
+use Rattle.format.specs.Sheet.{sheetKinds, sheetValues, sheetText, sheetAnswer, sheetBuffer}
 use Rattle.line_writer.specs.Positions.{written}
+use Rattle.line_writer.specs.Inside.{linesPut}
+use Rattle.line_writer.proofs.LineLaws.{lines-put}
+use Rattle.sheet_writer.specs.Positions.{answerAt, bufferAt}
 
-module _ (c : Credentials) (old : List ℕ) where
-  pub sheet-written : (buf : List ℕ) (n : ℕ) → valid c ≡ true → n ≡ length (sheetText c) → n ≤ length old → buf ≡ written old 0 (sheetText c)
-      → (_≡_ {A = Written} (record { code = 0; length = n }) (sheetAnswer c (length old))) × (buf ≡ sheetBuffer c old)
-  unfolding sheetAnswer sheetBuffer written
+module _ (c : Credentials) (at : ℕ) (old : List ℕ) where
+  pub sheet-written : (buf : List ℕ) (n : ℕ) → true ≡ valid c → n ≡ length (sheetText c) → at + n ≤ length old
+      → buf ≡ linesPut sheetKinds (sheetValues c) old at .buffer
+      → (_≡_ {A = Written} (record { code = 0; length = n }) (answerAt c at old)) × (buf ≡ bufferAt c at old)
+  unfolding answerAt bufferAt written sheetText
   sheet-written buf n v e h w =
-      let g : length (sheetText c) ≤ length old = omega (arith, e) in
-      let f : 0 + length (sheetText c) ≤ length old = omega (arith, e) in
-      rw (v, le-leb _ _ g) (
+      let fit : at + length (sheetText c) ≤ length old = omega (arith, e, h) in
+      rw (← v, le-leb (at + length (sheetText c)) (length old) fit) (
         ap (λ (k : ℕ). record { code = 0; length = k }) e,
-        w ∙ rw (le-leb _ _ f) (sets-eq (sheetText c) old 0 f ∙ rw (zero-add (length (sheetText c)))),
+        w ∙ ap (λ (p : _). p .buffer) (lines-put sheetKinds (sheetValues c) old at fit),
       )
 
-  pub sheet-no-room : valid c ≡ true → length old < length (sheetText c)
-      → (_≡_ {A = Written} (record { code = 28; length = 0 }) (sheetAnswer c (length old))) × (old ≡ sheetBuffer c old)
-  unfolding sheetAnswer sheetBuffer
-  sheet-no-room v h = rw (v, lt-leb _ _ h) (refl, refl)
+  pub sheet-no-room : true ≡ valid c → length old < at + length (sheetText c)
+      → (refused 28 ≡ answerAt c at old) × (old ≡ bufferAt c at old)
+  unfolding answerAt bufferAt written
+  sheet-no-room v h = rw (← v, lt-leb (at + length (sheetText c)) (length old) h) (refl, refl)
 
-  pub sheet-invalid : valid c ≡ false → (_≡_ {A = Written} (record { code = 72; length = 0 }) (sheetAnswer c (length old))) × (old ≡ sheetBuffer c old)
-  unfolding sheetAnswer sheetBuffer
-  sheet-invalid v = rw v (refl, refl)
+  pub sheet-invalid : false ≡ valid c → (refused 72 ≡ answerAt c at old) × (old ≡ bufferAt c at old)
+  unfolding answerAt bufferAt
+  sheet-invalid v = rw (← v) (refl, refl)
+
+module _ (c : Credentials) (old : List ℕ) where
+  -- at the front, by the two tests
+  front : (v t : Bool) → valid c ≡ v → leb (length (sheetText c)) (length old) ≡ t → (answerAt c 0 old ≡ sheetAnswer c (length old)) × (bufferAt c 0 old ≡ sheetBuffer c old)
+  unfolding answerAt bufferAt sheetAnswer sheetBuffer written
+  front false t e f = rw e (refl, refl)
+  front true false e f = rw (e, zero-add (length (sheetText c)), f) (refl, refl)
+  front true true e f =
+      let fit : 0 + length (sheetText c) ≤ length old = omega (arith, leb-true (length (sheetText c)) (length old) f) in
+      rw (e, zero-add (length (sheetText c)), f) (refl, sets-eq (sheetText c) old 0 fit ∙ rw (zero-add (length (sheetText c))))
+
+  pub at-the-front : (answerAt c 0 old ≡ sheetAnswer c (length old)) × (bufferAt c 0 old ≡ sheetBuffer c old)
+  at-the-front = front (valid c) (leb (length (sheetText c)) (length old)) refl refl

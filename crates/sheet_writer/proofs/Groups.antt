@@ -13,10 +13,10 @@ use Rattle.credentials.specs.declared.Sets.{Sets}
 use Rattle.credentials.specs.declared.Credentials.{Credentials}
 use Rattle.rules.specs.Fields.{number}
 use Rattle.format.specs.Line.{bytes, Kind, hexText, decimalText, keyedText, lineText, linesText}
-use Rattle.format.specs.Sheet.{idKinds, setKinds, flagKinds, sheetKinds, sheetText, idValues, setValues, flagValues}
+use Rattle.format.specs.Sheet.{idKinds, setKinds, flagKinds, sheetKinds, sheetText, idValues, setValues, flagValues, sheetValues}
 use Rattle.format.proofs.Lengths.{length-hex, length-one, length-keyed}
-use Rattle.line_writer.proofs.LineLaws.{sets-append}
-use Rattle.line_writer.specs.Positions.{written, writtenTo}
+use Rattle.line_writer.specs.Inside.{linesPut}
+use Rattle.line_writer.proofs.LineLaws.{lines-grouped}
 
 text-grouped : (ks ls : List Kind) (vs ws : List ℕ) → length ks ≡ length vs → linesText (ks ++ ls) (vs ++ ws) ≡ linesText ks vs ++ linesText ls ws
 unfolding linesText
@@ -48,16 +48,6 @@ flags-text : (securebits : ℕ) (nnp : Bool) → linesText flagKinds (flagValues
 unfolding linesText flagKinds
 flags-text securebits nnp = simp (append-nil)
 
-pub flags-text-set : (securebits : ℕ) (nnp : Bool) → nnp ≡ true → linesText flagKinds (flagValues securebits nnp)
-    ≡ keyedText (bytes "securebits=") (hexText 2 securebits) ++ keyedText (bytes "nnp=") (decimalText 1)
-unfolding number
-flags-text-set securebits nnp e = flags-text securebits nnp ∙ rw e
-
-pub flags-text-clear : (securebits : ℕ) (nnp : Bool) → nnp ≡ false → linesText flagKinds (flagValues securebits nnp)
-    ≡ keyedText (bytes "securebits=") (hexText 2 securebits) ++ keyedText (bytes "nnp=") (decimalText 0)
-unfolding number
-flags-text-clear securebits nnp e = flags-text securebits nnp ∙ rw e
-
 -- ---- lengths
 
 flag-length : (nnp : Bool) → length (decimalText (number nnp)) ≡ 1
@@ -84,29 +74,14 @@ length-of-sheet c =
 -- ---- the three groups, one after the other
 
 module _ (c : Credentials) where
-  abbrev idsText : List ℕ
-  idsText = linesText idKinds (idValues (c .uids))
-
-  abbrev setsText : List ℕ
-  setsText = linesText setKinds (setValues (c .sets))
-
-  abbrev flagsText : List ℕ
-  flagsText = linesText flagKinds (flagValues (c .securebits) (c .nnp))
-
-  pub length-grouped : length (sheetText c) ≡ length idsText + (length setsText + length flagsText)
-  length-grouped = ap length (sheet-text c) ∙ simp length-append
-
-  pub sheet-put : (old one two three : List ℕ) (at p q r : ℕ) → (p ≡ at + length idsText) × (one ≡ sets old at idsText)
-      → (q ≡ p + length setsText) × (two ≡ sets one p setsText) → (r ≡ q + length flagsText) × (three ≡ sets two q flagsText)
-      → at + length (sheetText c) ≤ length old → (r ≡ writtenTo old at (sheetText c)) × (three ≡ written old at (sheetText c))
-  unfolding written writtenTo
-  sheet-put old one two three at p q r e f g h =
-      let room = le-leb (at + length (sheetText c)) (length old) h in
-      let first : two ≡ sets old at (idsText ++ setsText) =
-      f .1 ∙ rw (e .1, e .0) (sym (sets-append idsText setsText old at)) in
-      let all : three ≡ sets old at ((idsText ++ setsText) ++ flagsText) =
-      g .1 ∙ rw (first, f .0, e .0) (rw (add-assoc at (length idsText) (length setsText), ← (length-append idsText setsText)) (sym (sets-append (idsText ++ setsText) flagsText old at))) in
-      rw room (
-        omega (arith, e .0, f .0, g .0, length-grouped),
-        all ∙ ap (sets old at) (append-assoc idsText setsText flagsText ∙ sym (sheet-text c)),
-      )
+  -- the lines of a sheet as its groups put them
+  pub sheet-put : (old one two three : List ℕ) (at p q r : ℕ)
+      → (p ≡ linesPut idKinds (idValues (c .uids)) old at .at) × (one ≡ linesPut idKinds (idValues (c .uids)) old at .buffer)
+      → (q ≡ linesPut setKinds (setValues (c .sets)) one p .at) × (two ≡ linesPut setKinds (setValues (c .sets)) one p .buffer)
+      → (r ≡ linesPut flagKinds (flagValues (c .securebits) (c .nnp)) two q .at) × (three ≡ linesPut flagKinds (flagValues (c .securebits) (c .nnp)) two q .buffer)
+      → (r ≡ linesPut sheetKinds (sheetValues c) old at .at) × (three ≡ linesPut sheetKinds (sheetValues c) old at .buffer)
+  unfolding sheetKinds idKinds setKinds
+  sheet-put old one two three at p q r e f g =
+      let first = lines-grouped idKinds (setKinds ++ flagKinds) (idValues (c .uids)) (setValues (c .sets) ++ flagValues (c .securebits) (c .nnp)) old at refl in
+      let second = lines-grouped setKinds flagKinds (setValues (c .sets)) (flagValues (c .securebits) (c .nnp)) one p refl in
+      rw (first, ← (e .0), ← (e .1), second, ← (f .0), ← (f .1)) g

@@ -3,13 +3,16 @@
 // The sheet itself is defined in the crate `format`. Every function is proved, for every argument: no public one has a `requires`. The crate
 // assumes nothing.
 ghost use mathlib.Core.Path.{_≡_};
-ghost use Prim.Native.Nat.{_+_, _≤_};
+ghost use Prim.Native.Nat.{_≤_};
 ghost use lib.ListN.{length};
-ghost use lib.Seq.{sets};
-ghost use Rattle.format.specs.Line.{linesText};
-ghost use Rattle.format.specs.Sheet.{idKinds, setKinds, flagKinds, sheetText, idValues, setValues, flagValues, sheetAnswer, sheetBuffer};
-ghost use Rattle.line_writer.specs.Positions.{written, writtenTo};
+ghost use Rattle.attribute.specs.Writer.{refused};
+ghost use Rattle.format.specs.Sheet.{idKinds, setKinds, flagKinds, sheetKinds, sheetText, idValues, setValues, flagValues, sheetValues, sheetAnswer, sheetBuffer};
+ghost use Rattle.line_writer.specs.Inside.{linesPut};
+ghost use Rattle.sheet_writer.specs.Positions.{answerAt, bufferAt};
 use attribute::Written;
+use codes::DONE;
+use codes::INVALID_CREDENTIALS;
+use codes::NO_ROOM;
 use credentials::Credentials;
 use credentials::Ids;
 use credentials::Sets;
@@ -17,13 +20,6 @@ use credentials::is_valid;
 use line_writer::decimal_length;
 use line_writer::write_decimal;
 use line_writer::write_hex;
-
-// What comes back: done, no room in the buffer, credentials that are not valid.
-const DONE: u64 = 0;
-
-const NO_ROOM: u64 = 28;
-
-const INVALID: u64 = 72;
 
 // A sheet's length without the digits of its IDs: the keys, five sets, securebits, no-new-privs and the newlines.
 const FIXED_LENGTH: usize = 179;
@@ -45,10 +41,54 @@ pub fn sheet_length(held: Credentials) -> usize
     FIXED_LENGTH + real + effective + saved + filesystem
 }
 
-// The lines of the user IDs into buf at the position at: the position past them.
+// The sheet of valid credentials at the front of a buffer: 72, then 28, and nothing written, or its length.
+pub fn write_sheet(held: Credentials, buf: &mut [u8]) -> Written
+    ensures { λ r. ⌜ (r ≡ sheetAnswer held (length (now (buf .entry)))) × (now (buf .exit) ≡ sheetBuffer held (now (buf .entry))) ⌝ }
+{
+    write_at(buf, 0, held)
+}
+
+// The sheet of valid credentials in place of the bytes from the position at on: 72, then 28, and nothing written, or its length.
+pub fn write_at(buf: &mut [u8], at: usize, held: Credentials) -> Written
+    ensures { λ r. ⌜ (r ≡ answerAt held at (now (buf .entry))) × (now (buf .exit) ≡ bufferAt held at (now (buf .entry))) ⌝ }
+{
+    if is_valid(held) {
+        let size = sheet_length(held);
+        let len = buf.len();
+        if len < size {
+            return refused(NO_ROOM);
+        }
+        if len - size < at {
+            return refused(NO_ROOM);
+        }
+        write_lines(buf, at, held);
+        return Written {
+            code: DONE,
+            length: size as u32,
+        };
+    }
+    refused(INVALID_CREDENTIALS)
+}
+
+// Nothing written.
+fn refused(code: u8) -> Written
+    ensures { λ r. ⌜ r ≡ refused code ⌝ }
+{
+    Written { code, length: 0 }
+}
+
+// The lines of a sheet into buf from the position at on, each that fits: the position past them.
+fn write_lines(buf: &mut [u8], at: usize, held: Credentials) -> usize
+    ensures { λ r. ⌜ (r ≡ linesPut sheetKinds (sheetValues held) (now (buf .entry)) at .at) × (now (buf .exit) ≡ linesPut sheetKinds (sheetValues held) (now (buf .entry)) at .buffer) ⌝ }
+{
+    let p = write_ids(buf, at, held.uids);
+    let q = write_sets(buf, p, held.sets);
+    write_flags(buf, q, held.securebits, held.nnp)
+}
+
+// The lines of the user IDs.
 fn write_ids(buf: &mut [u8], at: usize, ids: Ids) -> usize
-    requires { ⌜ at + length (linesText idKinds (idValues ids)) ≤ length (now buf) ⌝ }
-    ensures { λ r. ⌜ (r ≡ at + length (linesText idKinds (idValues ids))) × (now (buf .exit) ≡ sets (now (buf .entry)) at (linesText idKinds (idValues ids))) ⌝ }
+    ensures { λ r. ⌜ (r ≡ linesPut idKinds (idValues ids) (now (buf .entry)) at .at) × (now (buf .exit) ≡ linesPut idKinds (idValues ids) (now (buf .entry)) at .buffer) ⌝ }
 {
     let p = write_decimal(buf, at, b"ruid=", ids.real);
     let q = write_decimal(buf, p, b"euid=", ids.effective);
@@ -56,10 +96,9 @@ fn write_ids(buf: &mut [u8], at: usize, ids: Ids) -> usize
     write_decimal(buf, u, b"fsuid=", ids.filesystem)
 }
 
-// The lines of the capability sets into buf at the position at: the position past them.
+// The lines of the capability sets.
 fn write_sets(buf: &mut [u8], at: usize, held: Sets) -> usize
-    requires { ⌜ at + length (linesText setKinds (setValues held)) ≤ length (now buf) ⌝ }
-    ensures { λ r. ⌜ (r ≡ at + length (linesText setKinds (setValues held))) × (now (buf .exit) ≡ sets (now (buf .entry)) at (linesText setKinds (setValues held))) ⌝ }
+    ensures { λ r. ⌜ (r ≡ linesPut setKinds (setValues held) (now (buf .entry)) at .at) × (now (buf .exit) ≡ linesPut setKinds (setValues held) (now (buf .entry)) at .buffer) ⌝ }
 {
     let p = write_hex(buf, at, b"permitted=", SET_DIGITS, held.permitted);
     let q = write_hex(buf, p, b"inheritable=", SET_DIGITS, held.inheritable);
@@ -68,55 +107,10 @@ fn write_sets(buf: &mut [u8], at: usize, held: Sets) -> usize
     write_hex(buf, v, b"ambient=", SET_DIGITS, held.ambient)
 }
 
-// The lines of securebits and no-new-privs into buf at the position at: the position past them.
+// The lines of securebits and no-new-privs.
 fn write_flags(buf: &mut [u8], at: usize, securebits: u64, nnp: bool) -> usize
-    requires { ⌜ at + length (linesText flagKinds (flagValues securebits nnp)) ≤ length (now buf) ⌝ }
-    ensures { λ r. ⌜ (r ≡ at + length (linesText flagKinds (flagValues securebits nnp))) × (now (buf .exit) ≡ sets (now (buf .entry)) at (linesText flagKinds (flagValues securebits nnp))) ⌝ }
+    ensures { λ r. ⌜ (r ≡ linesPut flagKinds (flagValues securebits nnp) (now (buf .entry)) at .at) × (now (buf .exit) ≡ linesPut flagKinds (flagValues securebits nnp) (now (buf .entry)) at .buffer) ⌝ }
 {
     let p = write_hex(buf, at, b"securebits=", SECUREBITS_DIGITS, securebits);
-    if nnp {
-        return write_decimal(buf, p, b"nnp=", 1);
-    }
-    write_decimal(buf, p, b"nnp=", 0)
-}
-
-// The sheet of credentials, valid or not, into buf at the position at: the position past it, or at where it does not fit.
-pub fn write_at(buf: &mut [u8], at: usize, held: Credentials) -> usize
-    ensures { λ r. ⌜ (r ≡ writtenTo (now (buf .entry)) at (sheetText held)) × (now (buf .exit) ≡ written (now (buf .entry)) at (sheetText held)) ⌝ }
-{
-    let size = sheet_length(held);
-    let len = buf.len();
-    if len < size {
-        return at;
-    }
-    if len - size < at {
-        return at;
-    }
-    let p = write_ids(buf, at, held.uids);
-    let q = write_sets(buf, p, held.sets);
-    write_flags(buf, q, held.securebits, held.nnp)
-}
-
-// The sheet of valid credentials at the front of a buffer.
-pub fn write_sheet(held: Credentials, buf: &mut [u8]) -> Written
-    ensures { λ r. ⌜ (r ≡ sheetAnswer held (length (now (buf .entry)))) × (now (buf .exit) ≡ sheetBuffer held (now (buf .entry))) ⌝ }
-{
-    if is_valid(held) {
-        let size = sheet_length(held);
-        if size <= buf.len() {
-            write_at(buf, 0, held);
-            return Written {
-                code: DONE,
-                length: size,
-            };
-        }
-        return Written {
-            code: NO_ROOM,
-            length: 0,
-        };
-    }
-    Written {
-        code: INVALID,
-        length: 0,
-    }
+    write_decimal(buf, p, b"nnp=", nnp as u64)
 }

@@ -1,60 +1,67 @@
 -- `sheet_writer::write_at` meets its contract. Assumes nothing.
-use mathlib.Core.Path.{_∙_}
+use mathlib.Core.Path.{sym, _∙_}
 use native.Mathlib.Omega.{arith}
-use Rattle.format.specs.Sheet.{sheetText}
-use Rattle.line_writer.proofs.LineLaws.{text-refused}
-use Rattle.sheet_writer.proofs.Groups.{length-grouped, sheet-put}
+use Rattle.sheet_writer.proofs.Answers.{sheet-written, sheet-no-room, sheet-invalid}
+use borrow.Author.Needs.{needs}
 use Rattle.sheet_writer.proofs.write_at.Statement.{statement}
 use Rattle.sheet_writer.proofs.write_at.Tie as tie
 
+is-valid-requires : tie.Need-is-valid-requires
+is-valid-requires c κs = search needs
+
 sheet-length-requires : tie.Need-sheet-length-requires
-sheet-length-requires c κs = tt
+sheet-length-requires c κs = search needs
+
+refused-requires : tie.Need-refused-requires
+refused-requires c κs = search needs
 
 returns : tie.Need-returns
 returns c =
-    let a = c .before .before .before .args in
-    text-refused (sheetText (a .held)) (a .buf .now) (a .at) (omega (arith, c .before .sheet-length .ensures .0))
+    let a = c .before .before .before .before .before .before .args in
+    let n = sheet-no-room (a .held) (a .at) (a .buf .now) (sym (c .before .before .before .if1 .taken) ∙ c .before .before .before .before .is-valid .ensures) (omega (arith, c .before .if2 .taken, c .before .before .sheet-length .ensures .0)) in
+    (c .refused .ensures ∙ n .0, n .1)
+
+refused-requires-2 : tie.Need-refused-requires-2
+refused-requires-2 c κs = search needs
 
 returns-2 : tie.Need-returns-2
 returns-2 c =
-    let a = c .before .before .before .before .args in
-    text-refused (sheetText (a .held)) (a .buf .now) (a .at) (omega (arith, c .before .before .sheet-length .ensures .0))
+    let a = c .before .before .before .before .before .before .before .args in
+    let n = sheet-no-room (a .held) (a .at) (a .buf .now) (sym (c .before .before .before .before .if1 .taken) ∙ c .before .before .before .before .before .is-valid .ensures) (omega (arith, c .before .if3 .taken, c .before .before .if2 .left, c .before .before .before .sheet-length .ensures .0)) in
+    (c .refused2 .ensures ∙ n .0, n .1)
 
-write-ids-requires : tie.Need-write-ids-requires
-write-ids-requires c κs =
-    let a = c .before .before .before .before .before .args in
-    omega (arith, length-grouped (a .held), c .before .before .before .sheet-length .ensures .0)
+write-lines-requires : tie.Need-write-lines-requires
+write-lines-requires c κs = search needs
 
-write-sets-requires : tie.Need-write-sets-requires
-write-sets-requires c κs =
-    let a = c .before .before .before .before .before .before .before .before .before .args in
-    let first = c .before .before .before .write-ids in
-    omega (arith, length-grouped (a .held), c .before .before .before .before .before .before .before .sheet-length .ensures .0, first .ensures .0, first .kept .0)
-
-write-flags-requires : tie.Need-write-flags-requires
-write-flags-requires c κs =
-    let a = c .before .before .before .before .before .before .before .before .before .before .before .before .before .args in
-    let first = c .before .before .before .before .before .before .before .write-ids in
-    let second = c .before .before .before .write-sets in
-    omega (arith, length-grouped (a .held), c .before .before .before .before .before .before .before .before .before .before .before .sheet-length .ensures .0, first .ensures .0, first .kept .0, second .ensures .0, second .kept .0)
+cast-t11 : tie.Need-cast-t11
+cast-t11 c = search needs
 
 same-length : tie.Need-same-length
-same-length c = c .before .before .write-flags .kept .0 ∙ c .before .before .before .before .before .before .write-sets .kept .0 ∙ c .before .before .before .before .before .before .before .before .before .before .write-ids .kept .0
+same-length c = search needs
 
 returns-3 : tie.Need-returns-3
 returns-3 c =
-    let a = c .before .before .before .before .before .before .before .before .before .before .before .before .before .before .before .before .args in
-    sheet-put (a .held) (a .buf .now) _ _ _ (a .at) _ _ _ (c .before .before .before .before .before .before .before .before .before .before .write-ids .ensures) (c .before .before .before .before .before .before .write-sets .ensures) (c .before .before .write-flags .ensures) (omega (arith, c .before .before .before .before .before .before .before .before .before .before .before .before .before .before .sheet-length .ensures .0))
+    sheet-written _ _ _ _ _ (sym (c .before .before .before .before .before .before .before .if1 .taken) ∙ c .before .before .before .before .before .before .before .before .is-valid .ensures) (c .before .before .before .before .before .before .sheet-length .ensures .0) (omega (arith, c .before .before .before .before .if3 .left, c .before .before .before .before .before .if2 .left)) (c .before .before .write-lines .ensures .1)
+
+refused-requires-3 : tie.Need-refused-requires-3
+refused-requires-3 c κs = search needs
+
+returns-4 : tie.Need-returns-4
+returns-4 c = let n = sheet-invalid _ _ _ (sym (c .before .if1 .left) ∙ c .before .before .is-valid .ensures) in (c .refused3 .ensures ∙ n .0, n .1)
 
 pub write-at-spec : {M : Type 1} → statement M
 write-at-spec =
     tie.close
     (tie.spec
+    is-valid-requires
     sheet-length-requires
+    refused-requires
     returns
+    refused-requires-2
     returns-2
-    write-ids-requires
-    write-sets-requires
-    write-flags-requires
+    write-lines-requires
+    cast-t11
     same-length
-    returns-3)
+    returns-3
+    refused-requires-3
+    returns-4)

@@ -5,7 +5,7 @@ use native.Mathlib.Omega.{arith}
 use borrow.Author.Needs.{needs}
 use lib.ListN.{length, drop}
 use Rattle.format.specs.Line.{readDigits}
-use Rattle.line_reader.specs.declared.Line.the-variants.{Is}
+use Rattle.line_reader.specs.declared.lines.Line.the-variants.{Is}
 use Rattle.line_reader.proofs.LineLaws.{position, digits-step, digits-end}
 use borrow.Author.Tests.{eq-eqb, le-leb, le-ltb, lt-leb, lt-ltb, ne-eqb}
 use Rattle.line_reader.proofs.lines.digits_at.Statement.{statement}

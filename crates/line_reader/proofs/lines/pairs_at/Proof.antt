@@ -37,8 +37,8 @@ returns c =
     rw (l .inv .0, pairs-newline (l .i) t h (24 - l .n) bs (c .if1 .taken))
     (attribute-found t (l .bytes) (l .n) (l .i + 1) (omega arith) (l .inv .1) (l .inv .2) (l .inv .3))
 
-no-attribute-requires : tie.Need-no-attribute-requires Inv-loop μ-loop
-no-attribute-requires c κs = tt
+no-bytes-requires : tie.Need-no-bytes-requires Inv-loop μ-loop
+no-bytes-requires c κs = tt
 
 returns-2 : tie.Need-returns-2 Inv-loop μ-loop
 returns-2 c =
@@ -47,13 +47,13 @@ returns-2 c =
     let h = c .before .before .before .before .loop-test .taken in
     let bs = take (l .n) (l .bytes) in
     rw (l .inv .0, pairs-full (l .i) t h (24 - l .n) bs (omega (arith, c .before .if2 .taken)) (ne-eqb _ _ (c .before .before .if1 .left)))
-    (c .no-attribute .ensures)
+    (c .no-bytes .ensures)
 
 hex-digit-requires : tie.Need-hex-digit-requires Inv-loop μ-loop
 hex-digit-requires c κs = tt
 
-no-attribute-requires-2 : tie.Need-no-attribute-requires-2 Inv-loop μ-loop
-no-attribute-requires-2 c κs = tt
+no-bytes-requires-2 : tie.Need-no-bytes-requires-2 Inv-loop μ-loop
+no-bytes-requires-2 c κs = tt
 
 returns-3 : tie.Need-returns-3 Inv-loop μ-loop
 returns-3 c =
@@ -62,13 +62,13 @@ returns-3 c =
     let h = c .before .before .before .before .before .before .loop-test .taken in
     let bs = take (l .n) (l .bytes) in
     rw (l .inv .0, pairs-no-digit (l .i) t h (24 - l .n) (24 - (l .n + 1)) bs (omega arith) (ne-eqb _ _ (c .before .before .before .before .if1 .left)) (rw (← (c .before .before .hex-digit .ensures)) (le-ltb _ _ (c .before .if3 .taken))))
-    (c .no-attribute2 .ensures)
+    (c .no-bytes2 .ensures)
 
 add-j : tie.Need-add-j Inv-loop μ-loop
 add-j c = search needs
 
-no-attribute-requires-3 : tie.Need-no-attribute-requires-3 Inv-loop μ-loop
-no-attribute-requires-3 c κs = tt
+no-bytes-requires-3 : tie.Need-no-bytes-requires-3 Inv-loop μ-loop
+no-bytes-requires-3 c κs = tt
 
 returns-4 : tie.Need-returns-4 Inv-loop μ-loop
 returns-4 c =
@@ -77,7 +77,7 @@ returns-4 c =
     let h = c .before .before .before .before .before .before .before .loop-test .taken in
     let bs = take (l .n) (l .bytes) in
     rw (l .inv .0, pairs-one (l .i) t h (24 - l .n) (24 - (l .n + 1)) bs (omega arith) (c .before .if4 .taken) (ne-eqb _ _ (c .before .before .before .before .before .if1 .left)))
-    (c .no-attribute3 .ensures)
+    (c .no-bytes3 .ensures)
 
 shared-slice-read-hex-digit : tie.Need-shared-slice-read-hex-digit Inv-loop μ-loop
 shared-slice-read-hex-digit c = search needs
@@ -85,8 +85,8 @@ shared-slice-read-hex-digit c = search needs
 hex-digit-requires-2 : tie.Need-hex-digit-requires-2 Inv-loop μ-loop
 hex-digit-requires-2 c κs = tt
 
-no-attribute-requires-4 : tie.Need-no-attribute-requires-4 Inv-loop μ-loop
-no-attribute-requires-4 c κs = tt
+no-bytes-requires-4 : tie.Need-no-bytes-requires-4 Inv-loop μ-loop
+no-bytes-requires-4 c κs = tt
 
 returns-5 : tie.Need-returns-5 Inv-loop μ-loop
 returns-5 c =
@@ -102,7 +102,7 @@ returns-5 c =
       lt-ltb _ _ (c .before .before .before .before .before .if3 .left),
       le-ltb _ _ (c .before .if5 .taken),
     )
-    (c .no-attribute4 .ensures)
+    (c .no-bytes4 .ensures)
 
 mul-bytes : tie.Need-mul-bytes Inv-loop μ-loop
 mul-bytes c = search needs
@@ -145,14 +145,14 @@ loop-again c =
       zeros-left (l .bytes) (l .n) (24 - l .n) (24 - (l .n + 1)) _ (omega (arith, l .inv .1, c .before .before .before .before .before .before .if2 .left)) (l .inv .3),
     )
 
-no-attribute-requires-5 : tie.Need-no-attribute-requires-5 Inv-loop μ-loop
-no-attribute-requires-5 c κs = tt
+no-bytes-requires-5 : tie.Need-no-bytes-requires-5 Inv-loop μ-loop
+no-bytes-requires-5 c κs = tt
 
 returns-6 : tie.Need-returns-6 Inv-loop μ-loop
 returns-6 c =
     let l = c .before .before .loop in
     rw (l .inv .0, pairs-end (l .i) (c .before .before .before .before .args .text .now) (c .before .loop-test .left) (24 - l .n) (take (l .n) (l .bytes)))
-    (c .no-attribute5 .ensures)
+    (c .no-bytes5 .ensures)
 
 pub pairs-at-spec : {M : Type 1} → statement M
 pairs-at-spec =
@@ -164,17 +164,17 @@ pairs-at-spec =
     shared-slice-read-b
     add-t14
     returns
-    no-attribute-requires
+    no-bytes-requires
     returns-2
     hex-digit-requires
-    no-attribute-requires-2
+    no-bytes-requires-2
     returns-3
     add-j
-    no-attribute-requires-3
+    no-bytes-requires-3
     returns-4
     shared-slice-read-hex-digit
     hex-digit-requires-2
-    no-attribute-requires-4
+    no-bytes-requires-4
     returns-5
     mul-bytes
     add-bytes
@@ -184,5 +184,5 @@ pairs-at-spec =
     add-i
     loop-less
     loop-again
-    no-attribute-requires-5
+    no-bytes-requires-5
     returns-6)

@@ -44,7 +44,7 @@ loop-again c =
     let l = c .before .before .before .before .loop in
     let s = c .before .before .before .before .before in
     let a = s .args in
-    let size = rw (c .before .wide .ensures) at (c .decimal-length .ensures .0) in
+    let size = rw (c .before .wide .ensures .0) at (c .decimal-length .ensures .0) in
     let one = lines-length (a .codes .now) (a .values .now) (a .count) (omega (arith, s .pre .0, s .pre .2)) (omega (arith, s .pre .1, s .pre .2)) (l .j) (c .before .before .before .loop-test .taken) in
     (omega (arith, l .inv .0, one, size), search needs, omega (arith, c .decimal-length .ensures .1, l .inv .2))
 

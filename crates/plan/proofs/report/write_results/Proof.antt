@@ -63,7 +63,7 @@ loop-again c =
     let value = getD (a .values .now) (l .j) 0 in
     let t1 = keyedText (bytes "code=") (decimalText code) in
     let t2 = keyedText (bytes "value=") (hexText 16 value) in
-    let first = rw (c .before .before .before .before .before .before .before .before .before .before .before .wide .ensures) at (c .before .before .before .before .before .before .before .write-decimal .ensures) in
+    let first = rw (c .before .before .before .before .before .before .before .before .before .before .before .wide .ensures .0) at (c .before .before .before .before .before .before .before .write-decimal .ensures) in
     let second = c .before .before .write-hex .ensures in
     let pairs = pair-text code value in
     let size = ap length pairs in

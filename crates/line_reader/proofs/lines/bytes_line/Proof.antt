@@ -1,26 +1,26 @@
--- `line_reader::lines::read_attribute` meets its contract. Assumes nothing.
+-- `line_reader::lines::bytes_line` meets its contract. Assumes nothing.
 use mathlib.Core.Path.{sym, _∙_}
 use native.Mathlib.Omega.{arith}
 use Rattle.line_reader.proofs.Pairs.{attribute-short, attribute-there, attribute-missing}
 use borrow.Author.Needs.{needs}
-use Rattle.line_reader.proofs.lines.read_attribute.Statement.{statement}
-use Rattle.line_reader.proofs.lines.read_attribute.Tie as tie
+use Rattle.line_reader.proofs.lines.bytes_line.Statement.{statement}
+use Rattle.line_reader.proofs.lines.bytes_line.Tie as tie
 
-no-attribute-requires : tie.Need-no-attribute-requires
-no-attribute-requires c κs = tt
+no-bytes-requires : tie.Need-no-bytes-requires
+no-bytes-requires c κs = tt
 
 returns : tie.Need-returns
 returns c =
     let a = c .before .before .before .before .args in
-    c .no-attribute .ensures ∙ sym (attribute-short (a .key .now) (a .text .now) (a .at) (omega arith))
+    c .no-bytes .ensures ∙ sym (attribute-short (a .key .now) (a .text .now) (a .at) (omega arith))
 
-no-attribute-requires-2 : tie.Need-no-attribute-requires-2
-no-attribute-requires-2 c κs = tt
+no-bytes-requires-2 : tie.Need-no-bytes-requires-2
+no-bytes-requires-2 c κs = tt
 
 returns-2 : tie.Need-returns-2
 returns-2 c =
     let a = c .before .before .before .before .before .args in
-    c .no-attribute2 .ensures ∙ sym (attribute-short (a .key .now) (a .text .now) (a .at) (omega arith))
+    c .no-bytes2 .ensures ∙ sym (attribute-short (a .key .now) (a .text .now) (a .at) (omega arith))
 
 starts-with-requires : tie.Need-starts-with-requires
 starts-with-requires c κs = search needs
@@ -36,25 +36,25 @@ returns-3 c =
     let a = c .before .before .before .before .before .before .before .args in
     c .pairs-at .ensures ∙ sym (attribute-there (a .key .now) (a .text .now) (a .at) (sym (c .before .before .starts-with .ensures) ∙ c .before .if3 .taken))
 
-no-attribute-requires-3 : tie.Need-no-attribute-requires-3
-no-attribute-requires-3 c κs = tt
+no-bytes-requires-3 : tie.Need-no-bytes-requires-3
+no-bytes-requires-3 c κs = tt
 
 returns-4 : tie.Need-returns-4
 returns-4 c =
     let a = c .before .before .before .before .before .before .before .args in
-    c .no-attribute3 .ensures ∙ sym (attribute-missing (a .key .now) (a .text .now) (a .at) (sym (c .before .before .starts-with .ensures) ∙ c .before .if3 .left))
+    c .no-bytes3 .ensures ∙ sym (attribute-missing (a .key .now) (a .text .now) (a .at) (sym (c .before .before .starts-with .ensures) ∙ c .before .if3 .left))
 
-pub read-attribute-spec : {M : Type 1} → statement M
-read-attribute-spec =
+pub bytes-line-spec : {M : Type 1} → statement M
+bytes-line-spec =
     tie.close
     (tie.spec
-    no-attribute-requires
+    no-bytes-requires
     returns
-    no-attribute-requires-2
+    no-bytes-requires-2
     returns-2
     starts-with-requires
     add-pairs-at
     pairs-at-requires
     returns-3
-    no-attribute-requires-3
+    no-bytes-requires-3
     returns-4)

@@ -1,4 +1,4 @@
--- `line_reader::lines::read_decimal` meets its contract. Assumes nothing.
+-- `line_reader::lines::decimal_line` meets its contract. Assumes nothing.
 use mathlib.Core.Path.{sym, _∙_}
 use Prim.Native.Nat.{_+_}
 use native.Mathlib.Omega.{arith}
@@ -7,8 +7,8 @@ use Rattle.format.specs.Line.{decimal}
 use Rattle.line_reader.proofs.LineLaws.{decimal-line-short, decimal-step, line-there, line-missing}
 use borrow.Author.Tests.{le-leb, le-ltb, lt-leb, lt-ltb}
 use borrow.Author.Needs.{needs}
-use Rattle.line_reader.proofs.lines.read_decimal.Statement.{statement}
-use Rattle.line_reader.proofs.lines.read_decimal.Tie as tie
+use Rattle.line_reader.proofs.lines.decimal_line.Statement.{statement}
+use Rattle.line_reader.proofs.lines.decimal_line.Tie as tie
 
 add-size : tie.Need-add-size
 add-size c = search needs
@@ -61,8 +61,8 @@ returns-6 c =
     let a = c .before .before .before .before .before .before .args in
     sym (line-missing (a .key .now) (decimal (a .largest)) (a .text .now) (a .at) (sym (c .before .starts-with .ensures) ∙ c .if3 .left))
 
-pub read-decimal-spec : {M : Type 1} → statement M
-read-decimal-spec =
+pub decimal-line-spec : {M : Type 1} → statement M
+decimal-line-spec =
     tie.close
     (tie.spec
     add-size

@@ -1,0 +1,29 @@
+-- `sheet_writer::write_lines` meets its contract. Assumes nothing.
+use Rattle.sheet_writer.proofs.Groups.{sheet-put}
+use borrow.Author.Needs.{needs}
+use Rattle.sheet_writer.proofs.write_lines.Statement.{statement}
+use Rattle.sheet_writer.proofs.write_lines.Tie as tie
+
+write-ids-requires : tie.Need-write-ids-requires
+write-ids-requires c κs = search needs
+
+write-sets-requires : tie.Need-write-sets-requires
+write-sets-requires c κs = search needs
+
+write-flags-requires : tie.Need-write-flags-requires
+write-flags-requires c κs = search needs
+
+same-length : tie.Need-same-length
+same-length c = search needs
+
+returns : tie.Need-returns
+returns c =
+    let c3 = c .before .before in
+    let c2 = c3 .before .before .before .before in
+    let c1 = c2 .before .before .before .before in
+    sheet-put _ _ _ _ _ _ _ _ _ (c1 .write-ids .ensures) (c2 .write-sets .ensures) (c3 .write-flags .ensures)
+
+pub write-lines-spec : {M : Type 1} → statement M
+write-lines-spec =
+    tie.close
+    (tie.spec write-ids-requires write-sets-requires write-flags-requires same-length returns)
