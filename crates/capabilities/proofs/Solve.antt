@@ -4,7 +4,7 @@ use mathlib.Core.Path.{_≡_, refl, sym, ap₂, _∙_}
 use mathlib.Core.Bool.{Bool, true, false, not, _&&_, _||_, Bool·beq, false≢true}
 use mathlib.Core.List.{List, [], _∷_}
 use Prim.Native.Nat.{ℕ, zero, suc}
-use Rattle.capabilities.specs.Sets.{has, union, inter, minus, _⊆_}
+use Rattle.capabilities.specs.Sets.{has, union, inter, minus, Within}
 use Rattle.capabilities.proofs.Membership.{has-union, has-inter, has-minus, has-none, ext}
 use Rattle.capabilities.proofs.Inclusion.{in-is, and-l, and-r, and-i}
 
@@ -98,7 +98,7 @@ pub data Claim : Type 0 where
   _⊑_ : Ex → Ex → Claim
 
 abbrev pub holds : List ℕ → Claim → Type 0
-holds ρ (e ⊑ f) = sets ρ e ⊆ sets ρ f
+holds ρ (e ⊑ f) = Within (sets ρ e) (sets ρ f)
 
 abbrev pub test : List Bool → Claim → Bool
 test l (e ⊑ f) = not (truth l e) || truth l f
@@ -128,7 +128,7 @@ tests-of c ρ [] g = refl
 tests-of c ρ (x ∷ xs) g = and-i (test (members c ρ) x) (tests (members c ρ) xs) (test-of c ρ x (g .fact)) (tests-of c ρ xs (g .more))
 
 -- `follows ρ xs e f refl g` proves that e is within f from the inclusions xs, which g holds
-pub follows : (ρ : List ℕ) (xs : List Claim) (e f : Ex) → rows ρ (λ l. not (tests l xs) || test l (e ⊑ f)) ≡ true → Given ρ xs → sets ρ e ⊆ sets ρ f
+pub follows : (ρ : List ℕ) (xs : List Claim) (e f : Ex) → rows ρ (λ l. not (tests l xs) || test l (e ⊑ f)) ≡ true → Given ρ xs → Within (sets ρ e) (sets ρ f)
 follows ρ xs e f h g = record {
   all! = λ c m. in-is (truth-is c ρ f
       ∙ imp (truth (members c ρ) e) (truth (members c ρ) f)

@@ -7,7 +7,7 @@ use native.Mathlib.Omega.{arith}
 use lib.Dec.{eqb}
 use lib.ListN.{length}
 use borrow.Author.Tests.{eqb-false, leb-true, not-true}
-use Rattle.capabilities.specs.Sets.{lacks, union, minus, single, _⊆_}
+use Rattle.capabilities.specs.Sets.{lacks, union, minus, single, Within}
 use Rattle.capabilities.specs.Header.{CAP-SETPCAP}
 use Rattle.capabilities.proofs.Inclusion.{and-l, and-r, minus-sub, none-sub, not-lacks, not-outside, single-sub, sub-refl, union-sub}
 use Rattle.attribute.specs.declared.FileCapabilities.{FileCapabilities}
@@ -246,7 +246,7 @@ module _ (c : Credentials) (v : Valid c) where
       record {
         uids = record { real-small = v .uids .real-small; effective-small = effective; saved-small = effective; filesystem-small = effective };
         sets = kept-launched _ _
-            (cond-cases (λ (a : ℕ). a ⊆ c .sets .inheritable) (isPrivileged (c .nnp) flags f) _ _ (λ k. none-sub) (λ k. v .sets .ambient-inheritable));
+            (cond-cases (λ (a : ℕ). Within a (c .sets .inheritable)) (isPrivileged (c .nnp) flags f) _ _ (λ k. none-sub) (λ k. v .sets .ambient-inheritable));
         securebits = bits-launched (c .securebits) (v .securebits-small);
       }
 
