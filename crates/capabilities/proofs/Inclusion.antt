@@ -1,18 +1,16 @@
 -- Members and inclusion as facts: what follows from what, the order, the tests that decide it, and bounds.
 -- An inclusion of one expression in another is `search inclusions`, with `depth 8` behind it where they nest deep. Assumes nothing.
 use mathlib.Core.Path.{_≡_, refl, sym, ap, _∙_, subst}
-use mathlib.Core.Bool.{Bool, true, false, not, _&&_, _||_, true≢false, false≢true}
+use mathlib.Core.Bool.{Bool, true, false, not, _&&_, _||_, and-true, true≢false, false≢true}
 use Prim.Native.Nat.{ℕ, _+_, _-_, _*_, _/_, _%_, _^_, _≤_, _<_}
 use native.Mathlib.Nat.{lt-of-le-of-lt, le-of-eq}
-use native.Mathlib.Decide.{decLt}
 use native.Mathlib.Omega.{arith}
-use lib.Dec.{ltb}
 use lib.Arith.{bin-ind}
 use lib.Pow.{ones-lt}
-use lib.Bits.{or-lt, and-le-l, and-le-r}
-use borrow.Author.Tests.{eqb-true, eq-eqb, lt-ltb, not-true, not-false}
+use lib.Bits.{or-lt, and-le-r}
+use borrow.Author.Tests.{eqb-true, eq-eqb, not-false}
 use Rattle.capabilities.specs.Sets.{full, has, lacks, union, inter, minus, single, within, outside, Has, Within}
-use Rattle.capabilities.proofs.Membership.{has-union, has-inter, has-minus, has-above, has-none, has-single, has-below, below, ext, minus-step}
+use Rattle.capabilities.proofs.Membership.{has-union, has-inter, has-minus, has-none, has-single, ext, minus-step}
 
 -- ---- connectives
 
@@ -36,6 +34,15 @@ or-both : {A : Type 0} (x y : Bool) → x || y ≡ true → (x ≡ true → A) �
 or-both true y h f g = f refl
 or-both false y h f g = g h
 
+-- a disjunction that fails, on each side
+pub or-false-l : (x y : Bool) → x || y ≡ false → x ≡ false
+or-false-l true y h = absurd (true≢false h)
+or-false-l false y h = refl
+
+pub or-false-r : (x y : Bool) → x || y ≡ false → y ≡ false
+or-false-r true y h = absurd (true≢false h)
+or-false-r false y h = h
+
 pub and-l : (x y : Bool) → x && y ≡ true → x ≡ true
 and-l true y h = refl
 and-l false y h = h
@@ -53,7 +60,7 @@ and-i false y h k = h
 pub in-is : {n a : ℕ} → has a n ≡ true → Has a n
 in-is h = record { is! = h }
 
-pub in-none : {A : Type 0} {n : ℕ} → Has 0 n → A
+in-none : {A : Type 0} {n : ℕ} → Has 0 n → A
 in-none {n = n} h = false-true (has 0 n) (has-none n) (h .is!)
 
 pub in-union-l : {n a : ℕ} (b : ℕ) → Has a n → Has (union a b) n
@@ -75,14 +82,8 @@ inter-l {n} a b h = record { is! = and-l (has a n) (has b n) (sym (has-inter a b
 pub inter-r : {n : ℕ} (a b : ℕ) → Has (inter a b) n → Has b n
 inter-r {n} a b h = record { is! = and-r (has a n) (has b n) (sym (has-inter a b n) ∙ h .is!) }
 
-pub minus-in : {n : ℕ} (a b : ℕ) → Has (minus a b) n → Has a n
+minus-in : {n : ℕ} (a b : ℕ) → Has (minus a b) n → Has a n
 minus-in {n} a b h = record { is! = and-l (has a n) (not (has b n)) (sym (has-minus a b n) ∙ h .is!) }
-
-pub minus-out : {n : ℕ} (a b : ℕ) → Has (minus a b) n → has b n ≡ false
-minus-out {n} a b h = not-true (has b n) (and-r (has a n) (not (has b n)) (sym (has-minus a b n) ∙ h .is!))
-
-pub in-minus : {n a : ℕ} (b : ℕ) → Has a n → has b n ≡ false → Has (minus a b) n
-in-minus {n} {a} b h k = record { is! = has-minus a b n ∙ and-i (has a n) (not (has b n)) (h .is!) (ap not k) }
 
 pub in-single : {n : ℕ} → n < 64 → Has (single n) n
 in-single {n} h = record { is! = has-single n n h ∙ eq-eqb n n refl }
@@ -144,10 +145,10 @@ single-sub {n} {a} l h = record { all! = λ m k. subst (λ (x : ℕ). Has a x) (
 
 -- ---- the test and the fact
 
-pub union-absorb : {a b : ℕ} → Within a b → union a b ≡ b
+union-absorb : {a b : ℕ} → Within a b → union a b ≡ b
 union-absorb {a} {b} h = sub-antisymm (union-sub h sub-refl) (sub-union-r a sub-refl)
 
-pub inter-absorb : {a b : ℕ} → Within a b → inter a b ≡ a
+inter-absorb : {a b : ℕ} → Within a b → inter a b ≡ a
 inter-absorb {a} {b} h = sub-antisymm (inter-sub-l b sub-refl) (sub-inter sub-refl h)
 
 pub within-sub : (a b : ℕ) → within a b ≡ true → Within a b
@@ -164,26 +165,16 @@ pub sub-not-outside : {a b : ℕ} → Within a b → outside a b ≡ false
 unfolding outside
 sub-not-outside h = ap not (sub-within h)
 
-pub outside-not : (a b : ℕ) → outside a b ≡ true → Within a b → ⊥
-outside-not a b e h = false-true (outside a b) (sub-not-outside h) e
-
 pub not-lacks : (a n : ℕ) → lacks a n ≡ false → Has a n
 unfolding lacks
 not-lacks a n h = in-is (not-false (has a n) h)
-
-pub in-not-lacks : {a n : ℕ} → Has a n → lacks a n ≡ false
-unfolding lacks
-in-not-lacks h = ap not (h .is!)
 
 -- ---- bounds
 
 pub union-lt : (k a b : ℕ) → a < 2 ^ k → b < 2 ^ k → union a b < 2 ^ k
 union-lt = or-lt
 
-pub inter-le-l : (a b : ℕ) → inter a b ≤ a
-inter-le-l = and-le-l
-
-pub inter-le-r : (a b : ℕ) → inter a b ≤ b
+inter-le-r : (a b : ℕ) → inter a b ≤ b
 inter-le-r = and-le-r
 
 none-minus : (b : ℕ) → minus 0 b ≡ 0
@@ -200,25 +191,9 @@ minus-le a = bin-ind (λ (x : ℕ). (b : ℕ) → minus x b ≤ x) (λ b. le-of-
 pub sub-le : {a b : ℕ} → Within a b → a ≤ b
 sub-le {a} {b} h = subst (λ (x : ℕ). x ≤ b) (inter-absorb h) (inter-le-r a b)
 
-pub sub-lt : {a b : ℕ} (k : ℕ) → Within a b → b < 2 ^ k → a < 2 ^ k
-sub-lt k h l = lt-of-le-of-lt (sub-le h) l
-
-pub sub-below : {a : ℕ} (k : ℕ) → a < 2 ^ k → Within a (below k)
-sub-below {a} k h = record { all! = λ n m. in-is (has-below k n ∙ inside n m (decLt n k)) }
-  where
-    inside : (n : ℕ) → Has a n → Dec (n < k) → ltb n k ≡ true
-    inside n m (yes l) = lt-ltb n k l
-    inside n m (no g) = false-true (has a n) (has-above k a n h (omega arith)) (m .is!)
-
-pub below-lt : {a : ℕ} (k : ℕ) → Within a (below k) → a < 2 ^ k
-below-lt k h = sub-lt k h (ones-lt k)
-
--- no capability above 40, as an inclusion and as a bound
-pub sub-full : {a : ℕ} → a < 2 ^ 41 → Within a full
-sub-full h = sub-below 41 h
-
+-- no capability above 40, as a bound
 pub full-lt : {a : ℕ} → Within a full → a < 2 ^ 41
-full-lt h = below-lt 41 h
+full-lt h = lt-of-le-of-lt (sub-le h) (ones-lt 41)
 
 -- ---- two sets that agree on a third
 
@@ -228,10 +203,6 @@ and-under true true false h = refl
 and-under true false false h = refl
 and-under false true false h = refl
 and-under false false false h = refl
-
-and-true : (x : Bool) → x && true ≡ x
-and-true true = refl
-and-true false = refl
 
 pub agree : (a b m : ℕ) → ((n : ℕ) → Has m n → has a n ≡ has b n) → inter a m ≡ inter b m
 agree a b m h =

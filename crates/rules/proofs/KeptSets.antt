@@ -84,7 +84,7 @@ kept-next v h k = kept-then h (k (kept-valid v h))
 
 -- ---- one set changes
 
-pub kept-effective : {s : Sets} → ValidSets s → (e : ℕ) → Within e (s .permitted) → SetsKept s (withEffective s e)
+kept-effective : {s : Sets} → ValidSets s → (e : ℕ) → Within e (s .permitted) → SetsKept s (withEffective s e)
 kept-effective {s} v e h =
     record {
       effective-permitted = h;

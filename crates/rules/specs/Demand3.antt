@@ -30,7 +30,7 @@ abbrev pub LockedStays : ℕ → ℕ → ℕ → Type 0
 LockedStays flag first second = isSet first (lockOf flag) ≡ true → isSet second flag ≡ isSet first flag
 
 -- call 1 with operands 0 and these attribute bytes
-abbrev pub launchStep : List ℕ → Step
+abbrev launchStep : List ℕ → Step
 launchStep attribute = record { number = 1; a = 0; b = 0; c = 0; attribute = attribute }
 
 -- one launch of some file is done and leaves the capability in P
