@@ -6,7 +6,7 @@ use mathlib.Core.List.{List, _++_}
 use native.Mathlib.Omega.{arith}
 use lib.Dec.{eqb}
 use lib.ListN.{length, take, drop}
-use Rattle.capabilities.specs.Sets.{full, union, _⊆_}
+use Rattle.capabilities.specs.Sets.{full, union, Within}
 use Rattle.capabilities.proofs.Inclusion.{not-outside, union-sub-l, union-sub-r, full-lt}
 use Rattle.attribute.specs.Words.{Bytes, wordAt, wordBytes, setOf}
 use Rattle.attribute.specs.Reader.{bitsAbove40, fileOf, lengthOf, reading, unreadable, version2}
@@ -45,7 +45,7 @@ halves a = omega arith
 low-lt : (a : ℕ) → a % 0x100000000 < 0x100000000
 low-lt a = omega arith
 
-high-lt : (a : ℕ) → a ⊆ full → a / 0x100000000 < 0x100000000
+high-lt : (a : ℕ) → Within a full → a / 0x100000000 < 0x100000000
 high-lt a h = let k : a < 0x20000000000 = full-lt h in omega arith
 
 -- a written attribute's words
@@ -62,11 +62,11 @@ module _ (p i : ℕ) (e : Bool) where
   unfolding wordAt version2Bytes wordBytes
   word-8 = word-of-bytes (i % 0x100000000) (low-lt i)
 
-  word-12 : p ⊆ full → wordAt (version2Bytes p i e) 12 ≡ p / 0x100000000
+  word-12 : Within p full → wordAt (version2Bytes p i e) 12 ≡ p / 0x100000000
   unfolding wordAt version2Bytes wordBytes
   word-12 h = word-of-bytes (p / 0x100000000) (high-lt p h)
 
-  word-16 : i ⊆ full → wordAt (version2Bytes p i e) 16 ≡ i / 0x100000000
+  word-16 : Within i full → wordAt (version2Bytes p i e) 16 ≡ i / 0x100000000
   unfolding wordAt version2Bytes wordBytes
   word-16 h = word-of-bytes (i / 0x100000000) (high-lt i h)
 
@@ -78,7 +78,7 @@ module _ (p i : ℕ) (e : Bool) where
   pub read-back : bitsAbove40 p i ≡ false → reading (version2Bytes p i e) ≡ File (record { attached = true; permitted = p; inheritable = i; effective = e })
   unfolding reading unreadable fileOf version2 lengthOf
   read-back h =
-      let k : union p i ⊆ full = not-outside (union p i) full h in
+      let k : Within (union p i) full = not-outside (union p i) full h in
       simp
       (written-length, word-0, word-4, word-8, word-12 (union-sub-l p i k), word-16 (union-sub-r p i k), first-revision, first-other-bits, first-effective, halves, h)
 

@@ -8,6 +8,7 @@ use lib.Dec.{eqb}
 use lib.ListN.{length, take, drop, replicate, length-drop}
 use lib.Seq.{take-add, take-all, drop-drop}
 use borrow.Author.Tests.{eqb-true, eqb-false, not-false}
+use Rattle.capabilities.proofs.Inclusion.{or-false-l, or-false-r}
 use Rattle.attribute.specs.Words.{Bytes, byteAt, wordAt, wordBytes, setOf}
 use Rattle.attribute.specs.Reader.{bitsAbove40, fileOf, lengthOf, lengthOfAnotherRevision, otherBits, otherLength, otherRevision, reading, revision, unreadable, version1, version2}
 use Rattle.attribute.specs.Writer.{done, firstWord, version2Bytes, written}
@@ -29,14 +30,6 @@ inside : (t : Bool) {x : Reading} {f : FileCapabilities} → cond t Unreadable x
 inside true h = not-file h
 inside false h = (refl, h)
 
-or-l : (x y : Bool) → x || y ≡ false → x ≡ false
-or-l true y h = h
-or-l false y h = refl
-
-or-r : (x y : Bool) → x || y ≡ false → y ≡ false
-or-r true y h = absurd (true≢false h)
-or-r false y h = h
-
 record Held (s : List ℕ) (f : FileCapabilities) : Type 0 where
   version : otherRevision s ≡ false
   sized : lengthOfAnotherRevision s ≡ false
@@ -50,15 +43,15 @@ held s f some h =
     let read : cond (unreadable s) Unreadable (File (fileOf s)) ≡ File f = simp some at h in
     let k = inside (unreadable s) read in
     let same : fileOf s ≡ f = cc (k .1) in
-    let upTo3 = or-l (otherLength s || otherRevision s || lengthOfAnotherRevision s || otherBits s) (bitsAbove40 (fileOf s .permitted) (fileOf s .inheritable)) (k .0) in
-    let upTo2 = or-l (otherLength s || otherRevision s || lengthOfAnotherRevision s) (otherBits s) upTo3 in
-    let upTo1 = or-l (otherLength s || otherRevision s) (lengthOfAnotherRevision s) upTo2 in
+    let upTo3 = or-false-l (otherLength s || otherRevision s || lengthOfAnotherRevision s || otherBits s) (bitsAbove40 (fileOf s .permitted) (fileOf s .inheritable)) (k .0) in
+    let upTo2 = or-false-l (otherLength s || otherRevision s || lengthOfAnotherRevision s) (otherBits s) upTo3 in
+    let upTo1 = or-false-l (otherLength s || otherRevision s) (lengthOfAnotherRevision s) upTo2 in
     record {
-      version = or-r (otherLength s) (otherRevision s) upTo1;
-      sized = or-r (otherLength s || otherRevision s) (lengthOfAnotherRevision s) upTo2;
-      clean = or-r (otherLength s || otherRevision s || lengthOfAnotherRevision s) (otherBits s) upTo3;
+      version = or-false-r (otherLength s) (otherRevision s) upTo1;
+      sized = or-false-r (otherLength s || otherRevision s) (lengthOfAnotherRevision s) upTo2;
+      clean = or-false-r (otherLength s || otherRevision s || lengthOfAnotherRevision s) (otherBits s) upTo3;
       range = ap (λ (g : FileCapabilities). bitsAbove40 (g .permitted) (g .inheritable)) (sym same)
-          ∙ or-r (otherLength s || otherRevision s || lengthOfAnotherRevision s || otherBits s) (bitsAbove40 (fileOf s .permitted) (fileOf s .inheritable)) (k .0);
+          ∙ or-false-r (otherLength s || otherRevision s || lengthOfAnotherRevision s || otherBits s) (bitsAbove40 (fileOf s .permitted) (fileOf s .inheritable)) (k .0);
       is = same;
     }
 

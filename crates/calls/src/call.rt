@@ -6,12 +6,18 @@ use crate::ambient::ambient_raise;
 use crate::bounding::bounding_drop;
 use crate::bounding::bounding_read;
 use crate::capset::capset;
+use crate::decoding::decode;
+use crate::launching::launch;
 use crate::securebits::get_securebits;
 use crate::securebits::set_securebits;
 use crate::thread_flags::get_keep_caps;
 use crate::thread_flags::get_no_new_privs;
 use crate::thread_flags::set_keep_caps;
 use crate::thread_flags::set_no_new_privs;
+use crate::user_ids::setfsuid;
+use crate::user_ids::setresuid;
+use crate::user_ids::setreuid;
+use crate::user_ids::setuid;
 use credentials::Credentials;
 use rules::Answer;
 use rules::Call;
@@ -27,7 +33,7 @@ pub fn perform(start: Credentials, number: u64, a: u64, b: u64, c: u64, attribut
     if !credentials::is_valid(start) {
         return Answer::InvalidCredentials;
     }
-    let Decoded::Known(call) = decoding::decode(number, a, b, c, attribute.len()) else {
+    let Decoded::Known(call) = decode(number, a, b, c, attribute.len()) else {
         return Answer::InvalidArgument;
     };
     performed(start, attribute, call)
@@ -38,7 +44,7 @@ fn performed(start: Credentials, attribute: &[u8], call: Call) -> Answer
     ensures { λ r. ⌜ r ≡ performed start (now (attribute .entry)) call ⌝ }
 {
     match call {
-        Call::Execve { owner, flags } => launching::launch(start, owner, flags, attribute),
+        Call::Execve { owner, flags } => launch(start, owner, flags, attribute),
         Call::Capset {
             permitted,
             inheritable,
@@ -56,13 +62,13 @@ fn performed(start: Credentials, attribute: &[u8], call: Call) -> Answer
         Call::GetKeepCaps => get_keep_caps(start),
         Call::SetNoNewPrivs => set_no_new_privs(start),
         Call::GetNoNewPrivs => get_no_new_privs(start),
-        Call::Setuid { id } => ids::setuid(start, id),
-        Call::Setreuid { real, effective } => ids::setreuid(start, real, effective),
+        Call::Setuid { id } => setuid(start, id),
+        Call::Setreuid { real, effective } => setreuid(start, real, effective),
         Call::Setresuid {
             real,
             effective,
             saved,
-        } => ids::setresuid(start, real, effective, saved),
-        Call::Setfsuid { id } => ids::setfsuid(start, id),
+        } => setresuid(start, real, effective, saved),
+        Call::Setfsuid { id } => setfsuid(start, id),
     }
 }

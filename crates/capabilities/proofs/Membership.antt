@@ -3,13 +3,13 @@
 use mathlib.Core.Path.{_≡_, refl, sym, ap, ap₂, _∙_}
 use mathlib.Core.Bool.{Bool, false, not, _&&_, _||_, cond}
 use Prim.Native.Nat.{ℕ, zero, suc, _+_, _-_, _*_, _/_, _%_, _^_, _≤_, _<_, min, max, zero-le, suc-le-suc}
-use native.Mathlib.Nat.{le-of-suc-le-suc, not-suc-le-zero, zero-lt-suc, mod-lt, pow-suc, div-div-eq-div-mul, div-one, div-eq-of-lt, mul-comm, lt-of-lt-of-le, lt-of-le-of-lt, le-add-right, le-refl, one-mul, lt-suc-self}
+use native.Mathlib.Nat.{le-of-suc-le-suc, not-suc-le-zero, zero-lt-suc, mod-lt, pow-suc, div-div-eq-div-mul, div-one, div-eq-of-lt, mul-comm, lt-of-lt-of-le, lt-of-le-of-lt, le-add-right, one-mul, lt-suc-self}
 use native.Mathlib.Omega.{arith}
-use lib.Dec.{eqb, ltb, eqb·suc-suc, eqb·zero-suc, eqb·suc-zero, leb·suc-suc}
+use lib.Dec.{eqb, eqb·suc-suc, eqb·zero-suc, eqb·suc-zero}
 use lib.Arith.{digits-div, digits-mod, lt-one}
-use lib.Pow.{pow-pos, pow-mono, pow-lt}
+use lib.Pow.{pow-mono, pow-lt}
 use lib.Bits.{bitwise-step, bitAnd, bitOr, and-step, or-step, shifted-half, shifted-even}
-use borrow.Author.Tests.{eqb-false, lt-ltb, le-ltb}
+use borrow.Author.Tests.{eqb-false, lt-ltb}
 use Rattle.capabilities.specs.Sets.{has, union, inter, minus, single}
 
 -- ---- bits
@@ -102,7 +102,7 @@ has-minus = has-op minus (λ x y. x - y) minus-step less-small (λ x y. x && not
 
 -- ---- membership bit by bit
 
-pub has-low : (a : ℕ) → has a zero ≡ eqb (a % 2) 1
+has-low : (a : ℕ) → has a zero ≡ eqb (a % 2) 1
 unfolding has
 has-low a = ap (λ (x : ℕ). eqb x 1) (bit-zero a)
 
@@ -127,7 +127,7 @@ same-bit =
 pub half-lt : (k a : ℕ) → a < 2 ^ suc k → a / 2 < 2 ^ k
 half-lt k a h = let p : 2 ^ suc k ≡ 2 ^ k * 2 = pow-suc 2 k in omega arith
 
-pub ext-below : (k a b : ℕ) → a < 2 ^ k → b < 2 ^ k → ((n : ℕ) → n < k → has a n ≡ has b n) → a ≡ b
+ext-below : (k a b : ℕ) → a < 2 ^ k → b < 2 ^ k → ((n : ℕ) → n < k → has a n ≡ has b n) → a ≡ b
 ext-below zero a b ha hb e = lt-one ha ∙ sym (lt-one hb)
 ext-below (suc k) a b ha hb e =
     let lows : a % 2 ≡ b % 2 = same-bit (a % 2) (b % 2) (mod-lt a two-pos) (mod-lt b two-pos) (sym (has-low a) ∙ e zero (zero-lt-suc k) ∙ has-low b) in
@@ -144,7 +144,7 @@ ext a b e =
     ext-below (a + b) a b (lt-of-lt-of-le (lt-pow-self a) (pow-mono (le-add-right a b)))
     (lt-of-lt-of-le (lt-pow-self b) (pow-mono (omega arith))) (λ n h. e n)
 
--- ---- one capability, and all below k
+-- ---- one capability
 
 has-power : (m n : ℕ) → has (2 ^ m) n ≡ eqb n m
 unfolding has
@@ -163,20 +163,3 @@ single-power m h = ap (λ (t : Bool). cond t (2 ^ m) 0) (lt-ltb m 64 h)
 
 pub has-single : (m n : ℕ) → m < 64 → has (single m) n ≡ eqb n m
 has-single m n h = ap (λ (x : ℕ). has x n) (single-power m h) ∙ has-power m n
-
--- every capability below k
-abbrev pub below : ℕ → ℕ
-below k = 2 ^ k - 1
-
-below-step : (k : ℕ) → 2 ^ suc k - 1 ≡ (2 ^ k - 1) * 2 + 1
-below-step k = let p : 2 ^ suc k ≡ 2 ^ k * 2 = pow-suc 2 k in let q : 0 < 2 ^ k = pow-pos k in omega arith
-
-pub has-below : (k n : ℕ) → has (below k) n ≡ ltb n k
-unfolding has
-has-below zero n = has-none n ∙ sym (le-ltb n zero zero-le)
-has-below (suc k) zero =
-    has-low (2 ^ suc k - 1) ∙ ap (λ (x : ℕ). eqb (x % 2) 1) (below-step k) ∙ ap (λ (x : ℕ). eqb x 1) (digits-mod (2 ^ k - 1) (le-refl 2))
-    ∙ sym (lt-ltb zero (suc k) (zero-lt-suc k))
-has-below (suc k) (suc n) =
-    has-suc (2 ^ suc k - 1) n ∙ ap (λ (x : ℕ). has (x / 2) n) (below-step k) ∙ ap (λ (x : ℕ). has x n) (digits-div (2 ^ k - 1) (le-refl 2))
-    ∙ has-below k n ∙ sym (leb·suc-suc (suc n) k)

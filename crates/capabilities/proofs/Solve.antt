@@ -4,7 +4,7 @@ use mathlib.Core.Path.{_≡_, refl, sym, ap₂, _∙_}
 use mathlib.Core.Bool.{Bool, true, false, not, _&&_, _||_, Bool·beq, false≢true}
 use mathlib.Core.List.{List, [], _∷_}
 use Prim.Native.Nat.{ℕ, zero, suc}
-use Rattle.capabilities.specs.Sets.{has, union, inter, minus, _⊆_}
+use Rattle.capabilities.specs.Sets.{has, union, inter, minus, Within}
 use Rattle.capabilities.proofs.Membership.{has-union, has-inter, has-minus, has-none, ext}
 use Rattle.capabilities.proofs.Inclusion.{in-is, and-l, and-r, and-i}
 
@@ -19,13 +19,13 @@ pub data Ex : Type 0 where
   _∪_ _∩_ _∖_ : Ex → Ex → Ex
 
 -- the entry at a place, or d past the end
-abbrev pub at : {A : Type 0} → A → List A → ℕ → A
+abbrev at : {A : Type 0} → A → List A → ℕ → A
 at d [] n = d
 at d (x ∷ xs) zero = x
 at d (x ∷ xs) (suc n) = at d xs n
 
 -- an expression's set, over the sets of ρ
-abbrev pub sets : List ℕ → Ex → ℕ
+abbrev sets : List ℕ → Ex → ℕ
 sets ρ (var n) = at 0 ρ n
 sets ρ none = 0
 sets ρ (e ∪ f) = union (sets ρ e) (sets ρ f)
@@ -33,7 +33,7 @@ sets ρ (e ∩ f) = inter (sets ρ e) (sets ρ f)
 sets ρ (e ∖ f) = minus (sets ρ e) (sets ρ f)
 
 -- its truth at one capability, over that capability's membership in each set
-abbrev pub truth : List Bool → Ex → Bool
+abbrev truth : List Bool → Ex → Bool
 truth l (var n) = at false l n
 truth l none = false
 truth l (e ∪ f) = truth l e || truth l f
@@ -61,7 +61,7 @@ truth-is c ρ (e ∖ f) = has-minus (sets ρ e) (sets ρ f) c ∙ ap₂ (λ (x y
 -- ---- tables
 
 -- p holds at every row, one mark for each set of ρ
-abbrev pub rows : List ℕ → (List Bool → Bool) → Bool
+abbrev rows : List ℕ → (List Bool → Bool) → Bool
 rows [] p = p []
 rows (x ∷ xs) p = rows xs (λ l. p (true ∷ l)) && rows xs (λ l. p (false ∷ l))
 
@@ -97,17 +97,17 @@ infix 30 _⊑_
 pub data Claim : Type 0 where
   _⊑_ : Ex → Ex → Claim
 
-abbrev pub holds : List ℕ → Claim → Type 0
-holds ρ (e ⊑ f) = sets ρ e ⊆ sets ρ f
+abbrev holds : List ℕ → Claim → Type 0
+holds ρ (e ⊑ f) = Within (sets ρ e) (sets ρ f)
 
-abbrev pub test : List Bool → Claim → Bool
+abbrev test : List Bool → Claim → Bool
 test l (e ⊑ f) = not (truth l e) || truth l f
 
-abbrev pub Given : List ℕ → List Claim → Type 0
+abbrev Given : List ℕ → List Claim → Type 0
 Given ρ [] = Unit {0}
 Given ρ (x ∷ xs) = record { fact : holds ρ x; more : Given ρ xs }
 
-abbrev pub tests : List Bool → List Claim → Bool
+abbrev tests : List Bool → List Claim → Bool
 tests l [] = true
 tests l (x ∷ xs) = test l x && tests l xs
 
@@ -128,7 +128,7 @@ tests-of c ρ [] g = refl
 tests-of c ρ (x ∷ xs) g = and-i (test (members c ρ) x) (tests (members c ρ) xs) (test-of c ρ x (g .fact)) (tests-of c ρ xs (g .more))
 
 -- `follows ρ xs e f refl g` proves that e is within f from the inclusions xs, which g holds
-pub follows : (ρ : List ℕ) (xs : List Claim) (e f : Ex) → rows ρ (λ l. not (tests l xs) || test l (e ⊑ f)) ≡ true → Given ρ xs → sets ρ e ⊆ sets ρ f
+pub follows : (ρ : List ℕ) (xs : List Claim) (e f : Ex) → rows ρ (λ l. not (tests l xs) || test l (e ⊑ f)) ≡ true → Given ρ xs → Within (sets ρ e) (sets ρ f)
 follows ρ xs e f h g = record {
   all! = λ c m. in-is (truth-is c ρ f
       ∙ imp (truth (members c ρ) e) (truth (members c ρ) f)

@@ -43,12 +43,10 @@ within a b = eqb (union a b) b
 unfoldable pub outside : ℕ → ℕ → Bool
 outside a b = not (within a b)
 
--- the fact that n is a member of a
-infix 25 _∈_
-pub record _∈_ (n a : ℕ) : Type 0 where
+-- the fact that capability n is a member of a
+pub record Has (a n : ℕ) : Type 0 where
   pub is! : has a n ≡ true
 
 -- the fact that every member of a is one of b
-infix 25 _⊆_
-pub record _⊆_ (a b : ℕ) : Type 0 where
-  pub all! : (n : ℕ) → n ∈ a → n ∈ b
+pub record Within (a b : ℕ) : Type 0 where
+  pub all! : (n : ℕ) → Has a n → Has b n

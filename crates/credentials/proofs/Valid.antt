@@ -3,7 +3,7 @@ use Prim.Native.Nat.{_≤_}
 use mathlib.Core.Path.{_≡_, refl}
 use mathlib.Core.Bool.{Bool, true, false, _&&_, false≢true}
 use borrow.Author.Tests.{leb-true, le-leb}
-use Rattle.capabilities.specs.Sets.{full, within, _⊆_}
+use Rattle.capabilities.specs.Sets.{full, within, Within}
 use Rattle.capabilities.proofs.Inclusion.{and-l, and-r, and-i, within-sub, sub-within}
 use Rattle.credentials.specs.Validity.{ambientHeld, effectivePermitted, idInRange, idsInRange, noBitAbove40, securebitsInRange, valid}
 use Rattle.credentials.specs.declared.Ids.{Ids}
@@ -11,14 +11,14 @@ use Rattle.credentials.specs.declared.Sets.{Sets}
 use Rattle.credentials.specs.declared.Credentials.{Credentials}
 
 pub record ValidSets (s : Sets) : Type 0 where
-  pub effective-permitted : s .effective ⊆ s .permitted
-  pub ambient-permitted : s .ambient ⊆ s .permitted
-  pub ambient-inheritable : s .ambient ⊆ s .inheritable
-  pub permitted-full : s .permitted ⊆ full
-  pub inheritable-full : s .inheritable ⊆ full
-  pub effective-full : s .effective ⊆ full
-  pub bounding-full : s .bounding ⊆ full
-  pub ambient-full : s .ambient ⊆ full
+  pub effective-permitted : Within (s .effective) (s .permitted)
+  pub ambient-permitted : Within (s .ambient) (s .permitted)
+  pub ambient-inheritable : Within (s .ambient) (s .inheritable)
+  pub permitted-full : Within (s .permitted) full
+  pub inheritable-full : Within (s .inheritable) full
+  pub effective-full : Within (s .effective) full
+  pub bounding-full : Within (s .bounding) full
+  pub ambient-full : Within (s .ambient) full
 
 pub record ValidIds (u : Ids) : Type 0 where
   pub real-small : u .real ≤ 4294967294

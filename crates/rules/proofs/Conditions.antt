@@ -1,6 +1,6 @@
 -- What holds of a value that a test chooses. Assumes nothing.
 use mathlib.Core.Path.{_≡_, refl}
-use mathlib.Core.Bool.{Bool, true, false, cond, _||_, true≢false}
+use mathlib.Core.Bool.{Bool, true, false, cond}
 
 -- it holds if it holds of each side where the test leads there
 pub cond-cases : {A : Type 0} (P : A → Type 0) (t : Bool) (x y : A) → (t ≡ true → P x) → (t ≡ false → P y) → P (cond t x y)
@@ -11,12 +11,3 @@ cond-cases P false x y f g = g refl
 pub cond-with : {A : Type 0} (P : Bool → A → Type 0) (t : Bool) (x y : A) → P true x → P false y → P t (cond t x y)
 cond-with P true x y f g = f
 cond-with P false x y f g = g
-
--- a disjunction that fails, on each side
-pub or-false-l : (x y : Bool) → x || y ≡ false → x ≡ false
-or-false-l true y h = absurd (true≢false h)
-or-false-l false y h = refl
-
-pub or-false-r : (x y : Bool) → x || y ≡ false → y ≡ false
-or-false-r true y h = absurd (true≢false h)
-or-false-r false y h = h

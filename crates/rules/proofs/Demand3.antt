@@ -6,7 +6,7 @@ use mathlib.Core.List.{List, [], _∷_, _++_}
 use mathlib.Core.Logic.{_⊎_, inl, inr}
 use lib.Dec.{eqb}
 use lib.ListN.{length}
-use Rattle.capabilities.specs.Sets.{union, _∈_}
+use Rattle.capabilities.specs.Sets.{union, Has}
 use Rattle.capabilities.proofs.Inclusion.{in-union-l, in-union-r, union-cases}
 use Rattle.credentials.specs.Validity.{valid}
 use Rattle.credentials.specs.declared.Credentials.{Credentials}
@@ -79,7 +79,7 @@ demand-3 start h steps =
       by-one-launch = λ clear n m. one-launch start h clear n m;
     }
   where
-    within-reach : start .nnp ≡ false → (n : ℕ) → n ∈ reach (start .sets) → (n ∈ start .sets .permitted) ⊎ OneLaunch start n
+    within-reach : start .nnp ≡ false → (n : ℕ) → Has (reach (start .sets)) n → Has (start .sets .permitted) n ⊎ OneLaunch start n
     within-reach clear n m =
         union-cases (union (start .sets .permitted) (start .sets .inheritable)) (start .sets .bounding) m
         (λ pi. union-cases (start .sets .permitted) (start .sets .inheritable) pi (λ p. inl p)

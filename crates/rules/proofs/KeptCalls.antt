@@ -7,9 +7,9 @@ use native.Mathlib.Omega.{arith}
 use lib.Dec.{eqb}
 use lib.ListN.{length}
 use borrow.Author.Tests.{eqb-false, leb-true, not-true}
-use Rattle.capabilities.specs.Sets.{lacks, union, minus, single, _⊆_}
+use Rattle.capabilities.specs.Sets.{lacks, union, minus, single, Within}
 use Rattle.capabilities.specs.Header.{CAP-SETPCAP}
-use Rattle.capabilities.proofs.Inclusion.{and-l, and-r, minus-sub, none-sub, not-lacks, not-outside, single-sub, sub-refl, union-sub}
+use Rattle.capabilities.proofs.Inclusion.{and-l, and-r, minus-sub, none-sub, not-lacks, not-outside, or-false-l, or-false-r, single-sub, sub-refl, union-sub}
 use Rattle.attribute.specs.declared.FileCapabilities.{FileCapabilities}
 use Rattle.attribute.specs.declared.Reading.{Reading}
 use Rattle.attribute.specs.declared.Reading.the-variants.{File, Unreadable}
@@ -33,7 +33,7 @@ use Rattle.rules.specs.declared.Answer.{Answer}
 use Rattle.rules.specs.declared.Answer.the-variants.{Done, InvalidArgument, InvalidCredentials, NotPermitted, UnreadableAttribute}
 use Rattle.rules.specs.declared.Call.{Call}
 use Rattle.rules.specs.declared.Decoded.{Decoded}
-use Rattle.rules.proofs.Conditions.{cond-cases, cond-with, or-false-l, or-false-r}
+use Rattle.rules.proofs.Conditions.{cond-cases, cond-with}
 use Rattle.rules.proofs.KeptSets.{SetsKept, kept-after, kept-after-filesystem, kept-ambient, kept-bounding, kept-capset, kept-launched, kept-same, kept-then, kept-valid}
 use Rattle.rules.proofs.KeptSecurebits.{BitsKept, bits-keep-caps, bits-launched, bits-same, bits-set, bits-then}
 
@@ -57,7 +57,7 @@ sets-change : {c : Credentials} {s : Sets} → Valid c → SetsKept (c .sets) s 
 sets-change v h = record { uids = v .uids; sets = h; securebits = bits-same (v .securebits-small) }
 
 -- an answer that is done keeps what is to be kept
-abbrev pub Keeps : Bool → Credentials → Answer → Type 0
+abbrev Keeps : Bool → Credentials → Answer → Type 0
 Keeps x c (Done v d) = Kept x c d
 Keeps x c NotPermitted = Unit {0}
 Keeps x c InvalidArgument = Unit {0}
@@ -246,7 +246,7 @@ module _ (c : Credentials) (v : Valid c) where
       record {
         uids = record { real-small = v .uids .real-small; effective-small = effective; saved-small = effective; filesystem-small = effective };
         sets = kept-launched _ _
-            (cond-cases (λ (a : ℕ). a ⊆ c .sets .inheritable) (isPrivileged (c .nnp) flags f) _ _ (λ k. none-sub) (λ k. v .sets .ambient-inheritable));
+            (cond-cases (λ (a : ℕ). Within a (c .sets .inheritable)) (isPrivileged (c .nnp) flags f) _ _ (λ k. none-sub) (λ k. v .sets .ambient-inheritable));
         securebits = bits-launched (c .securebits) (v .securebits-small);
       }
 

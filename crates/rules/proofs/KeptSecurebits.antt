@@ -6,7 +6,7 @@ use mathlib.Core.List.{[], _∷_}
 use native.Mathlib.Omega.{arith}
 use lib.Dec.{eqb}
 use borrow.Author.Tests.{eqb-false, eqb-true, ne-eqb, not-false, not-true}
-use Rattle.capabilities.specs.Sets.{has, union, inter, minus, single, _∈_, _⊆_}
+use Rattle.capabilities.specs.Sets.{has, union, inter, minus, single, Has, Within}
 use Rattle.capabilities.proofs.Membership.{has-suc}
 use Rattle.capabilities.proofs.Inclusion.{agree, agrees, in-inter, in-is, inter-l, inter-r, inter-sub-l, inter-sub-r, minus-le, none-sub, not-outside, single-is, single-sub, sub-antisymm, sub-in, sub-inter, sub-refl, sub-trans, union-lt, within-sub}
 use Rattle.capabilities.proofs.Solve.{var, none, _∪_, _∩_, _∖_, solve}
@@ -19,7 +19,7 @@ use Rattle.rules.specs.Demand3.{LockedStays}
 -- launched: the step is a launch that was done
 pub record BitsKept (launched : Bool) (b d : ℕ) : Type 0 where
   pub small : d ≤ 255
-  pub locks-stay : locksSet b ⊆ d
+  pub locks-stay : Within (locksSet b) d
   pub noroot : LockedStays SECBIT-NOROOT b d
   pub no-setuid-fixup : LockedStays SECBIT-NO-SETUID-FIXUP b d
   pub no-cap-ambient-raise : LockedStays SECBIT-NO-CAP-AMBIENT-RAISE b d
@@ -32,16 +32,16 @@ same-flag : (b d flag : ℕ) → inter d flag ≡ inter b flag → isSet d flag 
 same-flag b d flag e = ap (λ (x : ℕ). not (eqb x 0)) e
 
 -- a flag that is set stays set in bits that have it too
-still-set : (b d flag : ℕ) → inter b flag ⊆ d → isSet b flag ≡ true → isSet d flag ≡ true
+still-set : (b d flag : ℕ) → Within (inter b flag) d → isSet b flag ≡ true → isSet d flag ≡ true
 still-set b d flag h s =
     ap not (ne-eqb (inter d flag) 0 (λ e. eqb-false (inter b flag) 0 (not-true _ s)
-    (sub-antisymm (subst (λ (x : ℕ). inter b flag ⊆ x) e (sub-inter h (inter-sub-r b sub-refl))) none-sub)))
+    (sub-antisymm (subst (λ (x : ℕ). Within (inter b flag) x) e (sub-inter h (inter-sub-r b sub-refl))) none-sub)))
 
 -- a flag of one bit that is set is a member
-set-member : (b n : ℕ) → n < 64 → isSet b (single n) ≡ true → n ∈ b
+set-member : (b n : ℕ) → n < 64 → isSet b (single n) ≡ true → Has b n
 set-member b n l s = in-is (known (has b n) refl)
   where
-    none-there : has b n ≡ false → inter b (single n) ⊆ 0
+    none-there : has b n ≡ false → Within (inter b (single n)) 0
     none-there h = record {
       all! = λ m k. absurd (true≢false (sym (subst (λ (x : ℕ). has b x ≡ true) (single-is n m l (inter-r b (single n) k)) (inter-l b (single n) k .is!)) ∙ h));
     }
@@ -51,16 +51,16 @@ set-member b n l s = in-is (known (has b n) refl)
     known false e = absurd (eqb-false (inter b (single n)) 0 (not-true _ s) (sub-antisymm (none-there e) none-sub))
 
 -- a flag whose lock is set is among the locked ones
-locked-flag : (b n : ℕ) → suc n < 64 → suc n ∈ allLocks → isSet b (single (suc n)) ≡ true → single n ⊆ lockedFlags b
+locked-flag : (b n : ℕ) → suc n < 64 → Has allLocks (suc n) → isSet b (single (suc n)) ≡ true → Within (single n) (lockedFlags b)
 locked-flag b n l k s =
     single-sub (omega arith) (in-is (sym (has-suc (locksSet b) n) ∙ in-inter (set-member b (suc n) l s) k .is!))
 
 -- bits that agree on some bits agree on a part of them
-narrower : (b d m part : ℕ) → inter d m ≡ inter b m → part ⊆ m → inter d part ≡ inter b part
+narrower : (b d m part : ℕ) → inter d m ≡ inter b m → Within part m → inter d part ≡ inter b part
 narrower b d m part e h = agree d b part (λ n k. agrees d b m e n (sub-in h k))
 
 -- bits that agree on the locked flags agree on each of them
-agree-on : (b d flag : ℕ) → flag ⊆ lockedFlags b → changesLocked b d ≡ false → isSet d flag ≡ isSet b flag
+agree-on : (b d flag : ℕ) → Within flag (lockedFlags b) → changesLocked b d ≡ false → isSet d flag ≡ isSet b flag
 unfolding changesLocked
 agree-on b d flag h e = same-flag b d flag (narrower b d (lockedFlags b) flag (sym (eqb-true _ _ (not-false _ e))) h)
 
@@ -77,7 +77,7 @@ bits-same h =
       keep-caps = λ l. refl;
     }
 
-lock-stays : {x : Bool} {b d : ℕ} (lock : ℕ) → lock ⊆ allLocks → BitsKept x b d → isSet b lock ≡ true → isSet d lock ≡ true
+lock-stays : {x : Bool} {b d : ℕ} (lock : ℕ) → Within lock allLocks → BitsKept x b d → isSet b lock ≡ true → isSet d lock ≡ true
 lock-stays {x} {b} {d} lock h k = still-set b d lock (sub-trans (sub-inter {b = b} {c = allLocks} (inter-sub-l lock sub-refl) (inter-sub-r b h)) (k .locks-stay))
 
 pub bits-then : {x y : Bool} {b d e : ℕ} → BitsKept x b d → BitsKept y d e → BitsKept (x || y) b e
@@ -123,7 +123,7 @@ others-stay : (x : Bool) (b d : ℕ) → d ≤ 255 → inter d others ≡ inter 
 others-stay x b d h e k =
     record {
       small = h;
-      locks-stay = subst (λ (y : ℕ). y ⊆ d) (part allLocks (within-sub allLocks others refl)) (inter-sub-l allLocks sub-refl);
+      locks-stay = subst (λ (y : ℕ). Within y d) (part allLocks (within-sub allLocks others refl)) (inter-sub-l allLocks sub-refl);
       noroot = λ l. same-flag b d SECBIT-NOROOT (part SECBIT-NOROOT (within-sub SECBIT-NOROOT others refl));
       no-setuid-fixup = λ l. same-flag b d SECBIT-NO-SETUID-FIXUP (part SECBIT-NO-SETUID-FIXUP (within-sub SECBIT-NO-SETUID-FIXUP others refl));
       no-cap-ambient-raise = λ l.
@@ -131,7 +131,7 @@ others-stay x b d h e k =
       keep-caps = k;
     }
   where
-    part : (m : ℕ) → m ⊆ others → inter d m ≡ inter b m
+    part : (m : ℕ) → Within m others → inter d m ≡ inter b m
     part m l = narrower b d others m e l
 
 -- KEEP_CAPS cleared

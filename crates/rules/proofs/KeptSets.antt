@@ -2,7 +2,7 @@
 use Prim.Native.Nat.{ℕ}
 use mathlib.Core.Bool.{not, _&&_}
 use lib.Dec.{eqb}
-use Rattle.capabilities.specs.Sets.{full, union, inter, minus, _⊆_}
+use Rattle.capabilities.specs.Sets.{full, union, inter, minus, Within}
 use Rattle.capabilities.proofs.Inclusion.{inclusions, inter-sub-l, inter-sub-r, minus-sub, none-sub, sub-refl, sub-trans, sub-union-r, union-sub}
 use Rattle.attribute.specs.declared.FileCapabilities.{FileCapabilities}
 use Rattle.credentials.specs.Securebits.{SECBIT-KEEP-CAPS, SECBIT-NO-SETUID-FIXUP}
@@ -18,30 +18,30 @@ use Rattle.rules.proofs.Conditions.{cond-cases}
 
 -- the sets t later, after the sets s
 pub record SetsKept (s t : Sets) : Type 0 where
-  pub effective-permitted : t .effective ⊆ t .permitted
-  pub ambient-permitted : t .ambient ⊆ t .permitted
-  pub ambient-inheritable : t .ambient ⊆ t .inheritable
-  pub permitted : t .permitted ⊆ reach s
-  pub inheritable : t .inheritable ⊆ reach s
-  pub bounding : t .bounding ⊆ s .bounding
+  pub effective-permitted : Within (t .effective) (t .permitted)
+  pub ambient-permitted : Within (t .ambient) (t .permitted)
+  pub ambient-inheritable : Within (t .ambient) (t .inheritable)
+  pub permitted : Within (t .permitted) (reach s)
+  pub inheritable : Within (t .inheritable) (reach s)
+  pub bounding : Within (t .bounding) (s .bounding)
 
 module _ (s : Sets) where
-  permitted-reach : s .permitted ⊆ reach s
+  permitted-reach : Within (s .permitted) (reach s)
   permitted-reach = search inclusions
 
-  inheritable-reach : s .inheritable ⊆ reach s
+  inheritable-reach : Within (s .inheritable) (reach s)
   inheritable-reach = search inclusions
 
-  bounding-reach : s .bounding ⊆ reach s
+  bounding-reach : Within (s .bounding) (reach s)
   bounding-reach = search inclusions
 
-  reach-full : ValidSets s → reach s ⊆ full
+  reach-full : ValidSets s → Within (reach s) full
   reach-full v = union-sub (union-sub (v .permitted-full) (v .inheritable-full)) (v .bounding-full)
 
 -- what follows valid sets is valid
 pub kept-valid : {s t : Sets} → ValidSets s → SetsKept s t → ValidSets t
 kept-valid {s} {t} v k =
-    let p : t .permitted ⊆ full = sub-trans (k .permitted) (reach-full s v) in
+    let p : Within (t .permitted) full = sub-trans (k .permitted) (reach-full s v) in
     record {
       effective-permitted = k .effective-permitted;
       ambient-permitted = k .ambient-permitted;
@@ -68,7 +68,7 @@ kept-same {s} v =
 
 pub kept-then : {s t u : Sets} → SetsKept s t → SetsKept t u → SetsKept s u
 kept-then {s} {t} {u} h k =
-    let r : reach t ⊆ reach s = union-sub (union-sub (h .permitted) (h .inheritable)) (sub-trans (h .bounding) (bounding-reach s)) in
+    let r : Within (reach t) (reach s) = union-sub (union-sub (h .permitted) (h .inheritable)) (sub-trans (h .bounding) (bounding-reach s)) in
     record {
       effective-permitted = k .effective-permitted;
       ambient-permitted = k .ambient-permitted;
@@ -84,7 +84,7 @@ kept-next v h k = kept-then h (k (kept-valid v h))
 
 -- ---- one set changes
 
-pub kept-effective : {s : Sets} → ValidSets s → (e : ℕ) → e ⊆ s .permitted → SetsKept s (withEffective s e)
+kept-effective : {s : Sets} → ValidSets s → (e : ℕ) → Within e (s .permitted) → SetsKept s (withEffective s e)
 kept-effective {s} v e h =
     record {
       effective-permitted = h;
@@ -95,7 +95,7 @@ kept-effective {s} v e h =
       bounding = sub-refl;
     }
 
-pub kept-ambient : {s : Sets} → ValidSets s → (a : ℕ) → a ⊆ s .permitted → a ⊆ s .inheritable → SetsKept s (withAmbient s a)
+pub kept-ambient : {s : Sets} → ValidSets s → (a : ℕ) → Within a (s .permitted) → Within a (s .inheritable) → SetsKept s (withAmbient s a)
 kept-ambient {s} v a h k =
     record {
       effective-permitted = v .effective-permitted;
@@ -106,7 +106,7 @@ kept-ambient {s} v a h k =
       bounding = sub-refl;
     }
 
-pub kept-bounding : {s : Sets} → ValidSets s → (b : ℕ) → b ⊆ s .bounding → SetsKept s (withBounding s b)
+pub kept-bounding : {s : Sets} → ValidSets s → (b : ℕ) → Within b (s .bounding) → SetsKept s (withBounding s b)
 kept-bounding {s} v b h =
     record {
       effective-permitted = v .effective-permitted;
@@ -119,7 +119,7 @@ kept-bounding {s} v b h =
 
 -- ---- capset
 
-pub kept-capset : {s : Sets} (p i e : ℕ) → i ⊆ union (s .inheritable) (s .bounding) → p ⊆ s .permitted → e ⊆ p → SetsKept s (capsetSets s p i e)
+pub kept-capset : {s : Sets} (p i e : ℕ) → Within i (union (s .inheritable) (s .bounding)) → Within p (s .permitted) → Within e p → SetsKept s (capsetSets s p i e)
 unfolding capsetSets
 kept-capset {s} p i e hi hp he =
     record {
@@ -193,7 +193,7 @@ module _ (old new : Ids) where
 
 -- ---- a launch, whatever the file's sets
 
-pub kept-launched : {s : Sets} (f : FileCapabilities) (a : ℕ) → a ⊆ s .inheritable → SetsKept s (launchedSets s f a)
+pub kept-launched : {s : Sets} (f : FileCapabilities) (a : ℕ) → Within a (s .inheritable) → SetsKept s (launchedSets s f a)
 unfolding launchedSets launchedEffective gained
 kept-launched {s} f a h =
     record {
@@ -205,9 +205,9 @@ kept-launched {s} f a h =
       bounding = sub-refl;
     }
   where
-    from-file : gained s f ⊆ reach s
+    from-file : Within (gained s f) (reach s)
     from-file = union-sub (inter-sub-l (f .inheritable) (inheritable-reach s)) (inter-sub-r (f .permitted) (bounding-reach s))
 
-    effective : launchedEffective (f .effective) (launchedPermitted s f a) a ⊆ launchedPermitted s f a
+    effective : Within (launchedEffective (f .effective) (launchedPermitted s f a) a) (launchedPermitted s f a)
     effective =
-        cond-cases (λ (x : ℕ). x ⊆ launchedPermitted s f a) (f .effective) _ _ (λ e. sub-refl) (λ e. sub-union-r (gained s f) sub-refl)
+        cond-cases (λ (x : ℕ). Within x (launchedPermitted s f a)) (f .effective) _ _ (λ e. sub-refl) (λ e. sub-union-r (gained s f) sub-refl)

@@ -7,7 +7,7 @@ use mathlib.Core.List.{List}
 use native.Mathlib.Decide.{decLt}
 use native.Mathlib.Omega.{arith}
 use lib.Dec.{eqb}
-use Rattle.capabilities.specs.Sets.{full, union, inter, single, _∈_}
+use Rattle.capabilities.specs.Sets.{full, union, inter, single, Has}
 use Rattle.capabilities.proofs.Membership.{has-above}
 use Rattle.capabilities.proofs.Inclusion.{in-inter, in-single, in-union-l, in-union-r, single-sub, sub-in, sub-not-outside, union-cases, union-sub}
 use Rattle.attribute.specs.Reader.{reading}
@@ -31,14 +31,14 @@ use Rattle.rules.specs.declared.Answer.the-variants.{Done}
 use Rattle.rules.proofs.Conditions.{cond-cases}
 
 -- a capability is below 41
-capability-small : {n : ℕ} → n ∈ full → n < 41
+capability-small : {n : ℕ} → Has full n → n < 41
 capability-small {n} h = decided (decLt n 41)
   where
     decided : Dec (n < 41) → n < 41
     decided (yes l) = l
     decided (no g) = absurd (true≢false (sym (h .is!) ∙ has-above 41 full n (omega arith) (omega arith)))
 
-module _ (n : ℕ) (l : n ∈ full) where
+module _ (n : ℕ) (l : Has full n) where
   -- the file, and its attribute
   abbrev granting : FileCapabilities
   granting = record { attached = true; permitted = single n; inheritable = single n; effective = false }
@@ -53,12 +53,12 @@ module _ (n : ℕ) (l : n ∈ full) where
   grant-reads = read-back (single n) (single n) false (sub-not-outside (union-sub (single-sub n-small l) (single-sub n-small l)))
 
   -- whatever c of Launching makes of a set that has n has it
-  counted-has : (bits : ℕ) (u : Ids) (f : FileCapabilities) (own : ℕ) → n ∈ own → n ∈ countedSet bits u f own
+  counted-has : (bits : ℕ) (u : Ids) (f : FileCapabilities) (own : ℕ) → Has own n → Has (countedSet bits u f own) n
   unfolding countedSet
-  counted-has bits u f own h = cond-cases (λ (x : ℕ). n ∈ x) (rootCounts bits u f && (eqb (u .real) 0 || eqb (u .effective) 0)) full own (λ t. l) (λ t. h)
+  counted-has bits u f own h = cond-cases (λ (x : ℕ). Has x n) (rootCounts bits u f && (eqb (u .real) 0 || eqb (u .effective) 0)) full own (λ t. l) (λ t. h)
 
-  launched-has : (s : Sets) (f : FileCapabilities) (a : ℕ) → n ∈ f .permitted → n ∈ f .inheritable → n ∈ union (s .inheritable) (s .bounding)
-      → n ∈ launchedSets s f a .permitted
+  launched-has : (s : Sets) (f : FileCapabilities) (a : ℕ) → Has (f .permitted) n → Has (f .inheritable) n → Has (union (s .inheritable) (s .bounding)) n
+      → Has (launchedSets s f a .permitted) n
   unfolding launchedSets gained
   launched-has s f a p i h =
       in-union-l a
@@ -71,7 +71,7 @@ module _ (n : ℕ) (l : n ∈ full) where
     unfolding answer decode known launch fileRead ignoresAttribute ignoresSetId fallsShort
     launch-done = simp (v, clear, grant-reads)
 
-    permits : n ∈ union (start .sets .inheritable) (start .sets .bounding) → n ∈ launched start 0 0 granting .sets .permitted
+    permits : Has (union (start .sets .inheritable) (start .sets .bounding)) n → Has (launched start 0 0 granting .sets .permitted) n
     unfolding launched counted
     permits h =
         launched-has (start .sets) _ _ (counted-has (start .securebits) _ granting (single n) (in-single n-small))
@@ -79,15 +79,15 @@ module _ (n : ℕ) (l : n ∈ full) where
 
 -- the launch
 pub one-launch : (start : Credentials) → valid start ≡ true → start .nnp ≡ false → (n : ℕ)
-    → n ∈ union (start .sets .inheritable) (start .sets .bounding) → OneLaunch start n
+    → Has (union (start .sets .inheritable) (start .sets .bounding)) n → OneLaunch start n
 unfolding result
 one-launch start v clear n h =
     let w : Valid start = valid-facts start v in
-    let l : n ∈ full = sub-in (union-sub (w .sets .inheritable-full) (w .sets .bounding-full)) h in
+    let l : Has full n = sub-in (union-sub (w .sets .inheritable-full) (w .sets .bounding-full)) h in
     let e = launch-done n l start v clear in
     record {
       attribute = grant n l;
       bytes = written-bytes (single n) (single n) false;
       done = ap code e;
-      gives = subst (λ (r : Answer). n ∈ after start r .sets .permitted) (sym e) (permits n l start v clear h);
+      gives = subst (λ (r : Answer). Has (after start r .sets .permitted) n) (sym e) (permits n l start v clear h);
     }

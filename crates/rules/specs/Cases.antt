@@ -21,40 +21,40 @@ pub record Case : Type 0 where
 -- ---- how the rows are written
 
 -- the four user IDs, and the five sets P, I, E, B and A
-abbrev pub ids : ℕ → ℕ → ℕ → ℕ → Ids
+abbrev ids : ℕ → ℕ → ℕ → ℕ → Ids
 ids real effective saved filesystem = record { real = real; effective = effective; saved = saved; filesystem = filesystem }
 
-abbrev pub sets : ℕ → ℕ → ℕ → ℕ → ℕ → Sets
+abbrev sets : ℕ → ℕ → ℕ → ℕ → ℕ → Sets
 sets p i e b a = record { permitted = p; inheritable = i; effective = e; bounding = b; ambient = a }
 
 -- unless said: IDs 1000, B full, other sets empty, securebits 0, no-new-privs clear
-abbrev pub usual : Credentials
+abbrev usual : Credentials
 usual = record { uids = ids 1000 1000 1000 1000; sets = sets 0 0 0 full 0; securebits = 0; nnp = false }
 
 -- the same with IDs 0
-abbrev pub root : Credentials
+abbrev root : Credentials
 root = withUids usual (ids 0 0 0 0)
 
 -- a call with its operands and no attribute
-abbrev pub call : ℕ → ℕ → ℕ → ℕ → Step
+abbrev call : ℕ → ℕ → ℕ → ℕ → Step
 call number a b c = record { number = number; a = a; b = b; c = c; attribute = [] }
 
 -- a launch of a file with owner 0, these flags and this attribute; plain: no flag and no attribute
-abbrev pub launch : ℕ → List ℕ → Step
+abbrev launch : ℕ → List ℕ → Step
 launch flags attribute = record { number = 1; a = 0; b = flags; c = 0; attribute = attribute }
 
-abbrev pub plain : Step
+abbrev plain : Step
 plain = launch 0 []
 
 -- what comes back where the call is done, and where it is refused
-abbrev pub done : ℕ → Credentials → Result
+abbrev done : ℕ → Credentials → Result
 done value after = record { code = 0; value = value; after = after }
 
-abbrev pub refused : ℕ → Credentials → Result
+abbrev refused : ℕ → Credentials → Result
 refused code start = record { code = code; value = 0; after = start }
 
 -- B without SYS_RAWIO
-abbrev pub without17 : ℕ
+abbrev without17 : ℕ
 without17 = minus full (single 17)
 
 -- ---- the table

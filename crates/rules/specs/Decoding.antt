@@ -23,7 +23,7 @@ unfoldable pub usesOne : ℕ → ℕ → ℕ → Bool
 usesOne b c size = eqb b 0 && usesTwo c size
 
 -- a call that uses no operand has a 0 besides
-abbrev pub usesNone : ℕ → ℕ → ℕ → ℕ → Bool
+abbrev usesNone : ℕ → ℕ → ℕ → ℕ → Bool
 usesNone a b c size = eqb a 0 && usesOne b c size
 
 -- a capability's number is at most 40
@@ -31,7 +31,7 @@ abbrev pub capabilityInRange : ℕ → Bool
 capabilityInRange n = leb n 40
 
 -- a set has no bit above 40
-abbrev pub setInRange : ℕ → Bool
+abbrev setInRange : ℕ → Bool
 setInRange x = within x full
 
 -- call 1's flags are at most 31

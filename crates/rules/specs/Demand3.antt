@@ -6,7 +6,7 @@ use mathlib.Core.List.{List, [], _∷_, _++_}
 use mathlib.Core.Logic.{_⊎_}
 use lib.Dec.{eqb}
 use lib.ListN.{length}
-use Rattle.capabilities.specs.Sets.{union, _∈_, _⊆_}
+use Rattle.capabilities.specs.Sets.{union, Has, Within}
 use Rattle.attribute.specs.Words.{Bytes}
 use Rattle.credentials.specs.Securebits.{SECBIT-NOROOT, SECBIT-NO-SETUID-FIXUP, SECBIT-KEEP-CAPS, SECBIT-NO-CAP-AMBIENT-RAISE, lockOf}
 use Rattle.credentials.specs.Validity.{valid}
@@ -30,7 +30,7 @@ abbrev pub LockedStays : ℕ → ℕ → ℕ → Type 0
 LockedStays flag first second = isSet first (lockOf flag) ≡ true → isSet second flag ≡ isSet first flag
 
 -- call 1 with operands 0 and these attribute bytes
-abbrev pub launchStep : List ℕ → Step
+abbrev launchStep : List ℕ → Step
 launchStep attribute = record { number = 1; a = 0; b = 0; c = 0; attribute = attribute }
 
 -- one launch of some file is done and leaves the capability in P
@@ -38,7 +38,7 @@ pub record OneLaunch (start : Credentials) (n : ℕ) : Type 0 where
   pub attribute : List ℕ
   pub bytes : Bytes attribute
   pub done : result start (launchStep attribute) .code ≡ 0
-  pub gives : n ∈ result start (launchStep attribute) .after .sets .permitted
+  pub gives : Has (result start (launchStep attribute) .after .sets .permitted) n
 
 -- the list goes on from a state on the way
 pub record GoesOn (start : Credentials) (before rest : List Step) : Type 0 where
@@ -62,9 +62,9 @@ pub record Demand3 (start : Credentials) (steps : List Step) : Type 0 where
   -- after the list the credentials are valid
   pub ends-valid : valid (left start steps) ≡ true
   -- the bounding set is within that of the start
-  pub bounding-shrinks : left start steps .sets .bounding ⊆ start .sets .bounding
+  pub bounding-shrinks : Within (left start steps .sets .bounding) (start .sets .bounding)
   -- every lock set at the start is still set
-  pub locks-stay : locksSet (start .securebits) ⊆ left start steps .securebits
+  pub locks-stay : Within (locksSet (start .securebits)) (left start steps .securebits)
   -- each of these flags, where locked at the start, is as it was then
   pub noroot : LockedStays SECBIT-NOROOT (start .securebits) (left start steps .securebits)
   pub no-setuid-fixup : LockedStays SECBIT-NO-SETUID-FIXUP (start .securebits) (left start steps .securebits)
@@ -73,11 +73,11 @@ pub record Demand3 (start : Credentials) (steps : List Step) : Type 0 where
   pub keep-caps : isSet (start .securebits) (lockOf SECBIT-KEEP-CAPS) ≡ true
       → isSet (left start steps .securebits) SECBIT-KEEP-CAPS ≡ cond (launchDone start steps) false (isSet (start .securebits) SECBIT-KEEP-CAPS)
   -- nothing is permitted that is in none of P, I and B of the start
-  pub permitted-within : left start steps .sets .permitted ⊆ reach (start .sets)
+  pub permitted-within : Within (left start steps .sets .permitted) (reach (start .sets))
   -- with no-new-privs clear at the start, each capability of the three is permitted then or after one launch of some file
-  pub reachable : start .nnp ≡ false → (n : ℕ) → n ∈ reach (start .sets) → (n ∈ start .sets .permitted) ⊎ OneLaunch start n
+  pub reachable : start .nnp ≡ false → (n : ℕ) → Has (reach (start .sets)) n → Has (start .sets .permitted) n ⊎ OneLaunch start n
   -- and so by a launch each one of I or B, be it permitted at the start or not
-  pub by-one-launch : start .nnp ≡ false → (n : ℕ) → n ∈ union (start .sets .inheritable) (start .sets .bounding) → OneLaunch start n
+  pub by-one-launch : start .nnp ≡ false → (n : ℕ) → Has (union (start .sets .inheritable) (start .sets .bounding)) n → OneLaunch start n
 
 -- the demand: from any valid credentials, by any list of calls
 abbrev pub Demanded : Type 0

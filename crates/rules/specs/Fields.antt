@@ -30,9 +30,6 @@ withNnp c flag = record { uids = c .uids; sets = c .sets; securebits = c .secure
 abbrev pub withPermitted : Sets → ℕ → Sets
 withPermitted s p = record { permitted = p; inheritable = s .inheritable; effective = s .effective; bounding = s .bounding; ambient = s .ambient }
 
-abbrev pub withInheritable : Sets → ℕ → Sets
-withInheritable s i = record { permitted = s .permitted; inheritable = i; effective = s .effective; bounding = s .bounding; ambient = s .ambient }
-
 abbrev pub withEffective : Sets → ℕ → Sets
 withEffective s e = record { permitted = s .permitted; inheritable = s .inheritable; effective = e; bounding = s .bounding; ambient = s .ambient }
 

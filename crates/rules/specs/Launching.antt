@@ -63,7 +63,7 @@ launchedIds nnp flags owner u =
     }
 
 -- c, the exception: an attribute is attached, and only the effective ID is 0
-abbrev pub keepsOwn : Ids → FileCapabilities → Bool
+abbrev keepsOwn : Ids → FileCapabilities → Bool
 keepsOwn u f = f .attached && not (eqb (u .real) 0) && eqb (u .effective) 0
 
 -- c: root counts for more where NOROOT is clear, but for the exception
@@ -75,7 +75,7 @@ unfoldable pub countedSet : ℕ → Ids → FileCapabilities → ℕ → ℕ
 countedSet securebits u f own = cond (rootCounts securebits u f && (eqb (u .real) 0 || eqb (u .effective) 0)) full own
 
 -- c: and with an effective ID of 0 the file's effective bit counts as on
-abbrev pub countedBit : ℕ → Ids → FileCapabilities → Bool
+abbrev countedBit : ℕ → Ids → FileCapabilities → Bool
 countedBit securebits u f = f .effective || rootCounts securebits u f && eqb (u .effective) 0
 
 -- c: the file as it counts, for the user IDs after b
@@ -120,7 +120,7 @@ launchedSets s f a =
     }
 
 -- e: KEEP_CAPS is cleared, locked or not
-abbrev pub launchedSecurebits : ℕ → ℕ
+abbrev launchedSecurebits : ℕ → ℕ
 launchedSecurebits securebits = minus securebits SECBIT-KEEP-CAPS
 
 -- f: with its own bit on, a file's own permitted set has to be given whole, whatever c counts as full

@@ -11,7 +11,7 @@ use Rattle.rules.specs.declared.Answer.{Answer}
 use Rattle.rules.specs.declared.Answer.the-variants.{Done, NotPermitted}
 
 -- all four flags, and their locks
-abbrev pub allFlags : ℕ
+abbrev allFlags : ℕ
 allFlags = SECBIT-NOROOT + SECBIT-NO-SETUID-FIXUP + SECBIT-KEEP-CAPS + SECBIT-NO-CAP-AMBIENT-RAISE
 
 abbrev pub allLocks : ℕ

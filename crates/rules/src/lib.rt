@@ -1,7 +1,6 @@
 // The rules of the eighteen calls: the types of a call and of its answer here, the definitions in specs/.
 //
-// There are no functions: the crates `launching`, `ids`, `decoding` and `calls` have the code that meets these rules. The crate assumes
-// nothing.
+// There are no functions: the crate `calls` has the code that meets these rules. The crate assumes nothing.
 use credentials::Credentials;
 
 // What a call answers: done, with its value and the credentials after it, or refused: by the rules (1), because number, operands and attribute

@@ -29,11 +29,7 @@ pub(crate) fn bytes(key: &[u8], value: &[u8]) {
     io::write_all(STDOUT_FILENO, key);
     let mut i = 0;
     while i < value.len() {
-        io::print_hex(STDOUT_FILENO, wide(value[i]), 2);
+        io::print_hex(STDOUT_FILENO, codes::wide(value[i]), 2);
         i += 1;
     }
-}
-
-fn wide(x: u8) -> u64 {
-    x as u64
 }

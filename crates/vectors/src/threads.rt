@@ -4,7 +4,6 @@ use crate::output;
 use credentials::Credentials;
 use credentials::Ids;
 use credentials::Sets;
-use rules::Answer;
 
 // The credentials of a row, and where they end.
 struct Start {
@@ -89,33 +88,22 @@ pub(crate) fn show_call(row: &[u8]) {
         c.value,
         &bytes[0..size],
     );
-    show_answer(answer, start.given);
-}
-
-// What comes back: the number, the value and the state of each answer.
-fn show_answer(answer: Answer, start: Credentials) {
-    match answer {
-        Answer::Done { value, after } => show_result(0, value, after),
-        Answer::NotPermitted => show_result(1, 0, start),
-        Answer::InvalidArgument => show_result(22, 0, start),
-        Answer::UnreadableAttribute => show_result(60, 0, start),
-        Answer::InvalidCredentials => show_result(72, 0, start),
-    }
-}
-
-fn show_result(code: u64, value: u64, after: Credentials) {
-    output::decimal(b"code=", code);
-    output::hex(b" value=", value, 1);
-    output::decimal(b" uids=", after.uids.real);
-    output::decimal(b",", after.uids.effective);
-    output::decimal(b",", after.uids.saved);
-    output::decimal(b",", after.uids.filesystem);
-    output::hex(b" sets=", after.sets.permitted, 1);
-    output::hex(b",", after.sets.inheritable, 1);
-    output::hex(b",", after.sets.effective, 1);
-    output::hex(b",", after.sets.bounding, 1);
-    output::hex(b",", after.sets.ambient, 1);
-    output::hex(b" securebits=", after.securebits, 1);
-    output::flag(b" nnp=", after.nnp);
+    output::decimal(b"code=", codes::wide(answers::code(answer)));
+    output::hex(b" value=", answers::value(answer), 1);
+    show_credentials(answers::after(start.given, answer));
     output::text(b"\n");
+}
+
+fn show_credentials(given: Credentials) {
+    output::decimal(b" uids=", given.uids.real);
+    output::decimal(b",", given.uids.effective);
+    output::decimal(b",", given.uids.saved);
+    output::decimal(b",", given.uids.filesystem);
+    output::hex(b" sets=", given.sets.permitted, 1);
+    output::hex(b",", given.sets.inheritable, 1);
+    output::hex(b",", given.sets.effective, 1);
+    output::hex(b",", given.sets.bounding, 1);
+    output::hex(b",", given.sets.ambient, 1);
+    output::hex(b" securebits=", given.securebits, 1);
+    output::flag(b" nnp=", given.nnp);
 }

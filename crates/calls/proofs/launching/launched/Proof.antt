@@ -1,0 +1,41 @@
+-- `calls::launching::launched` meets its contract. Assumes nothing.
+use Rattle.rules.specs.Launching.{launched}
+use Rattle.calls.proofs.launching.launched.Statement.{statement}
+use Rattle.calls.proofs.launching.launched.Tie as tie
+
+launched-ids-requires : tie.Need-launched-ids-requires
+launched-ids-requires c κs = tt
+
+counted-requires : tie.Need-counted-requires
+counted-requires c κs = tt
+
+launched-ambient-requires : tie.Need-launched-ambient-requires
+launched-ambient-requires c κs = tt
+
+launched-sets-requires : tie.Need-launched-sets-requires
+launched-sets-requires c κs = tt
+
+difference-requires : tie.Need-difference-requires
+difference-requires c κs = tt
+
+returns : tie.Need-returns
+unfolding launched
+returns c =
+    simp (
+      ← (c .difference .ensures),
+      ← (c .before .launched-sets .ensures),
+      ← (c .before .before .launched-ambient .ensures),
+      ← (c .before .before .before .counted .ensures),
+      ← (c .before .before .before .before .launched-ids .ensures),
+    )
+
+pub launched-spec : {M : Type 1} → statement M
+launched-spec =
+    tie.close
+    (tie.spec
+    launched-ids-requires
+    counted-requires
+    launched-ambient-requires
+    launched-sets-requires
+    difference-requires
+    returns)
