@@ -1,13 +1,6 @@
--- Flags: as numbers where the code casts them, and as a test that the code turns round. Assumes nothing.
+-- A test that the code turns round. Assumes nothing.
 use mathlib.Core.Path.{_≡_, refl}
 use mathlib.Core.Bool.{Bool, true, false, cond, not, false≢true, true≢false}
-use mir.Val.{boolByte}
-use Rattle.rules.specs.Fields.{number}
-
-pub cast-is-number : (flag : Bool) → boolByte flag ≡ number flag
-unfolding number
-cast-is-number true = refl
-cast-is-number false = refl
 
 -- `if !test { return y; }` answers what a choice by the test does
 pub not-taken : {A : Type 0} (test : Bool) (x y : A) → not test ≡ true → cond test x y ≡ y

@@ -3,7 +3,7 @@ use native.Mathlib.Omega.{arith}
 use native.Mathlib.Nat.{zero-add, add-assoc, mod-eq-of-lt}
 use mathlib.Core.Path.{_≡_, refl, sym, ap, subst, _∙_}
 use mathlib.Core.List.{List, [], _∷_, _++_}
-use mathlib.Core.Bool.{Bool, true, false, cond}
+use mathlib.Core.Bool.{Bool, true, false, cond, true≢false}
 use Prim.Native.Nat.{ℕ, _+_, _-_, _%_, _^_, _<_, _≤_}
 use lib.ListN.{length, take, drop, replicate, length-append, length-drop, length-replicate}
 use lib.Seq.{drop-append-seam, take-append-seam, drop-drop}
@@ -18,7 +18,7 @@ use Rattle.line_reader.specs.declared.Attribute.{Attribute}
 use Rattle.line_reader.specs.declared.lines.Line.{Line}
 use Rattle.line_reader.specs.declared.lines.Bytes.{Bytes}
 use Rattle.line_reader.specs.Positions.{pastLine, atFault, readNumber, numberAt, noAttribute, readBytes, attributeAt}
-use Rattle.line_reader.specs.Inside.{placed, lineAt, placedBytes, bytesAt, onward, Values, linesAt, seen}
+use Rattle.line_reader.specs.Inside.{placed, lineAt, placedBytes, bytesAt, onward, from, Values, linesAt, seen}
 
 -- ---- one line
 
@@ -66,6 +66,10 @@ lines-stay (k ∷ ks) text p h =
 below-mapped : {A B : Type 0} (f : A → B) (n : ℕ) (r : Read A) → below n (below 1 (mapped f r)) ≡ mapped f (below (n + 1) r)
 below-mapped f n (read v t) = refl
 below-mapped f n (faultAt line) = ap faultAt (sym (add-assoc n 1 line))
+
+below-none : {A : Type 0} (r : Read A) → below 0 r ≡ r
+below-none (read v t) = refl
+below-none (faultAt line) = ap faultAt (zero-add line)
 
 seen-first : (v : ℕ) (x : Values) (text : List ℕ) → seen (record { values = v ∷ x .values; place = x .place }) text ≡ mapped (λ vs. v ∷ vs) (seen x text)
 seen-first v x text = by (x .place .fault) where
@@ -124,27 +128,76 @@ lines-grouped (k ∷ ks) ls text p =
     let n = numberAt (keyText k) (k .form) text p in
     ap (λ (x : Values). record { values = n .value ∷ x .values; place = x .place }) (lines-grouped ks ls text (n .place))
 
-module _ (text : List ℕ) where
-  number-within : (key : List ℕ) (form : Form) (p : Place) → p .at ≤ length text
-      → (numberAt key form text p .place .at ≤ length text) × (numberAt key form text p .place .lines ≤ p .lines + 1)
-  unfolding numberAt
-  number-within key form p h = by (p .fault) (readKeyed key form (drop (p .at) text)) where
-    by : (t : Bool) (r : Read ℕ)
-        → (cond t (record { value = 0; place = p }) (readNumber text p r) .place .at ≤ length text)
-        × (cond t (record { value = 0; place = p }) (readNumber text p r) .place .lines ≤ p .lines + 1)
-    by true r = (h, omega arith)
-    by false (read v rest) = (omega arith, omega arith)
-    by false (faultAt line) = (h, omega arith)
+-- from a position on
+pub lines-read : (ks : List Kind) (text : List ℕ) (at : ℕ) → length ks < 2 ^ 32 → readLines ks (drop at text) ≡ seen (linesAt ks text (from at)) text
+lines-read ks text at b = sym (below-none (readLines ks (drop at text))) ∙ lines-seen ks text (from at) refl (omega (arith, b))
 
-  -- the place stays within the text, and is at most as many lines further on
-  pub lines-within : (ks : List Kind) (p : Place) → p .at ≤ length text
-      → (linesAt ks text p .place .at ≤ length text) × (linesAt ks text p .place .lines ≤ p .lines + length ks)
+module _ (text : List ℕ) where
+  module _ (key : List ℕ) (form : Form) (p : Place) where
+    within : (t : Bool) (r : Read ℕ) → p .at ≤ length text → cond t (record { value = 0; place = p }) (readNumber text p r) .place .at ≤ length text
+    within true r h = h
+    within false (read v rest) h = omega arith
+    within false (faultAt line) h = h
+
+    most : (t : Bool) (r : Read ℕ) → cond t (record { value = 0; place = p }) (readNumber text p r) .place .lines ≤ p .lines + 1
+    most true r = omega arith
+    most false (read v rest) = omega arith
+    most false (faultAt line) = omega arith
+
+    number-within : p .at ≤ length text → numberAt key form text p .place .at ≤ length text
+    unfolding numberAt
+    number-within h = within (p .fault) (readKeyed key form (drop (p .at) text)) h
+
+    number-most : numberAt key form text p .place .lines ≤ p .lines + 1
+    unfolding numberAt
+    number-most = most (p .fault) (readKeyed key form (drop (p .at) text))
+
+  -- the place stays within the text
+  pub lines-within : (ks : List Kind) (p : Place) → p .at ≤ length text → linesAt ks text p .place .at ≤ length text
   unfolding linesAt
-  lines-within [] p h = (h, omega arith)
-  lines-within (k ∷ ks) p h =
-      let n = number-within (keyText k) (k .form) p h in
-      let s = lines-within ks (numberAt (keyText k) (k .form) text p .place) (n .0) in
-      (s .0, omega (arith, s .1, n .1))
+  lines-within [] p h = h
+  lines-within (k ∷ ks) p h = lines-within ks (numberAt (keyText k) (k .form) text p .place) (number-within (keyText k) (k .form) p h)
+
+  -- a fault is at one of the lines
+  pub lines-most : (ks : List Kind) (p : Place) → linesAt ks text p .place .lines ≤ p .lines + length ks
+  unfolding linesAt
+  lines-most [] p = omega arith
+  lines-most (k ∷ ks) p =
+      let n : numberAt (keyText k) (k .form) text p .place .lines ≤ p .lines + 1 = number-most (keyText k) (k .form) p in
+      omega (arith, n, lines-most ks (numberAt (keyText k) (k .form) text p .place))
+
+-- without a fault each line counts
+module _ (key : List ℕ) (form : Form) (text : List ℕ) (p : Place) (b : p .lines + 1 < 2 ^ 32) where
+  counted : (t : Bool) (r : Read ℕ) → p .fault ≡ t → cond t (record { value = 0; place = p }) (readNumber text p r) .place .fault ≡ false
+      → cond t (record { value = 0; place = p }) (readNumber text p r) .place .lines ≡ p .lines + 1
+  counted true r e h = absurd (true≢false (sym e ∙ h))
+  counted false (read v rest) e h = mod-eq-of-lt b
+  counted false (faultAt line) e h = absurd (true≢false h)
+
+  number-counted : numberAt key form text p .place .fault ≡ false → numberAt key form text p .place .lines ≡ p .lines + 1
+  unfolding numberAt
+  number-counted h = counted (p .fault) (readKeyed key form (drop (p .at) text)) refl h
+
+module _ (k : Kind) (ks : List Kind) (text : List ℕ) (p : Place) where
+  abbrev first : Place
+  first = numberAt (keyText k) (k .form) text p .place
+
+  counted-on : (t : Bool) → first .fault ≡ t → p .lines + (1 + length ks) < 2 ^ 32
+      → ((q : Place) → q .lines + length ks < 2 ^ 32 → linesAt ks text q .place .fault ≡ false → linesAt ks text q .place .lines ≡ q .lines + length ks)
+      → linesAt ks text first .place .fault ≡ false
+      → linesAt ks text first .place .lines ≡ p .lines + (1 + length ks)
+  counted-on true e b rec h = absurd (true≢false (sym e ∙ sym (ap (λ (q : Place). q .fault) (lines-stay ks text first e)) ∙ h))
+  counted-on false e b rec h =
+      let n : first .lines ≡ p .lines + 1 = number-counted (keyText k) (k .form) text p (omega (arith, b)) e in
+      let m : linesAt ks text first .place .lines ≡ first .lines + length ks = rec first (omega (arith, b, n)) h in
+      omega (arith, n, m)
+
+pub lines-counted : (ks : List Kind) (text : List ℕ) (p : Place) → p .lines + length ks < 2 ^ 32 → linesAt ks text p .place .fault ≡ false
+    → linesAt ks text p .place .lines ≡ p .lines + length ks
+unfolding linesAt
+lines-counted [] text p b h = omega arith
+lines-counted (k ∷ ks) text p b h =
+    counted-on k ks text p (numberAt (keyText k) (k .form) text p .place .fault) refl (omega (arith, b)) (lines-counted ks text) h ∙ omega arith
 
 -- ---- an attribute's line
 
@@ -177,3 +230,53 @@ module _ (key text : List ℕ) (p : Place) where
   unfolding bytesAt
   bytes-missed b h e f =
       missed-read (readAttribute key (drop (p .at) text)) (sym (ap (λ (x : Bytes). x .found) e) ∙ f) ∙ sym (bytes-some h)
+
+-- what an attribute that was read tells
+pub record Told (a : Attribute) (key text : List ℕ) (p : Place) : Type 0 where
+  pub before : p .fault ≡ false
+  pub is : readAttribute key (drop (p .at) text) ≡ read (take (a .size) (a .bytes)) (drop (a .place .at) text)
+  pub size : a .size ≤ 24
+  pub bytes : length (a .bytes) ≡ 24
+
+module _ (key text : List ℕ) (p : Place) where
+  told : (r : Read (List ℕ)) → readAttribute key (drop (p .at) text) ≡ r → p .fault ≡ false → readBytes text p r .place .fault ≡ false
+      → Told (readBytes text p r) key text p
+  told (read bs rest) e g h =
+      let k = attribute-written key bs (drop (p .at) text) rest e in
+      let d = rest-at text (keyedText key (pairsText bs)) rest (p .at) (k .0) (some-line key (pairsText bs)) in
+      record {
+        before = g;
+        is = e ∙ rw (take-append-seam bs (replicate (24 - length bs) 0)) (ap (read bs) (sym d));
+        size = k .2;
+        bytes = length-append bs (replicate (24 - length bs) 0) ∙ rw (length-replicate {A = ℕ} (24 - length bs) 0) (omega (arith, k .2));
+      }
+  told (faultAt line) e g h = absurd (true≢false h)
+
+  told-by : (t : Bool) → p .fault ≡ t → (a : Attribute) → a ≡ attributeAt key text p → a .place .fault ≡ false → Told a key text p
+  told-by true g a e h =
+      absurd (true≢false (sym g ∙ ap (λ (x : Attribute). x .place .fault) (bytes-none key text p g ∙ sym e) ∙ h))
+  told-by false g a e h =
+      let f = e ∙ bytes-some key text p g in
+      subst (λ (x : Attribute). Told x key text p) (sym f)
+      (told (readAttribute key (drop (p .at) text)) refl g (sym (ap (λ (x : Attribute). x .place .fault) f) ∙ h))
+
+  -- an attribute that was read
+  pub attribute-read : (a : Attribute) → a ≡ attributeAt key text p → a .place .fault ≡ false → Told a key text p
+  attribute-read a e h = told-by (p .fault) refl a e h
+
+  missed : (r : Read (List ℕ)) → r ≡ inLine r → readBytes text p r .place .fault ≡ true → (r ≡ fault) × (readBytes text p r .place ≡ atFault p)
+  missed (read bs rest) e h = absurd (true≢false (sym h))
+  missed (faultAt line) e h = (e, refl)
+
+  -- an attribute's line at fault, where none before it is
+  pub attribute-missed : (a : Attribute) → a ≡ attributeAt key text p → p .fault ≡ false → a .place .fault ≡ true
+      → (readAttribute key (drop (p .at) text) ≡ fault) × (a .place ≡ atFault p)
+  attribute-missed a e g h =
+      let f = e ∙ bytes-some key text p g in
+      let r = readAttribute key (drop (p .at) text) in
+      let m = missed r (key-in-line key (readPairs 24 []) (drop (p .at) text) (pairs-in-line 24 [])) (sym (ap (λ (x : Attribute). x .place .fault) f) ∙ h) in
+      (m .0, ap (λ (x : Attribute). x .place) f ∙ m .1)
+
+  -- after a fault the place stays
+  pub attribute-skipped : (a : Attribute) → a ≡ attributeAt key text p → p .fault ≡ true → a .place ≡ p
+  attribute-skipped a e g = ap (λ (x : Attribute). x .place) (e ∙ sym (bytes-none key text p g))

@@ -57,6 +57,10 @@ onward p Fault = record { value = 0; place = atFault p }
 
 -- ---- lines one after the other
 
+-- a position, from which lines are counted
+abbrev pub from : ℕ → Place
+from at = record { at = at; lines = 0; fault = false }
+
 -- the values of lines, and the place past them
 pub record Values : Type 0 where
   pub values : List ℕ

@@ -4,7 +4,7 @@ use native.Mathlib.Numerals.{add-one}
 use native.Mathlib.Nat.{zero-add}
 use mathlib.Core.Path.{_≡_, refl, sym, ap, _∙_}
 use mathlib.Core.List.{List, [], _∷_, _++_, append-nil}
-use mathlib.Core.Bool.{cond}
+use mathlib.Core.Bool.{true, cond}
 use Prim.Native.Nat.{ℕ, _+_, _-_, _<_, _≤_}
 use borrow.Author.Tests.{le-leb, lt-leb}
 use lib.ListN.{length, getD, take, drop, length-append, drop-of-length-le}
@@ -20,6 +20,8 @@ use Rattle.format.specs.declared.Outcome.{Outcome}
 use Rattle.format.proofs.Lengths.{length-hex, length-keyed}
 use Rattle.format.proofs.Reading.{mapped-told}
 use Rattle.line_writer.specs.Positions.{written}
+use Rattle.sheet_writer.specs.Positions.{bufferAt}
+use Rattle.rules.proofs.Demand3.{demand-3}
 use Rattle.line_writer.proofs.LineLaws.{sets-append}
 use Rattle.plan.specs.Inside.{Ran, codesOf, valuesOf, ranOf, ranSteps, answersText}
 
@@ -90,6 +92,11 @@ module _ (a s old : List ℕ) where
       → (_≡_ {A = Outcome} (record { code = 28; line = 0; length = 0 }) (outcome (report (a ++ s)) (length old))) × (old ≡ buffer (report (a ++ s)) old)
   report-no-room h = rw (lt-leb (length (a ++ s)) (length old) (omega (arith, length-append a s))) (refl, refl)
 
+-- the sheet of valid credentials is written
+pub sheet-put : (c : Credentials) (at : ℕ) (old : List ℕ) → valid c ≡ true → bufferAt c at old ≡ written old at (sheetText c)
+unfolding bufferAt
+sheet-put c at old v = rw v
+
 -- ---- the plan
 
 module _ (text : List ℕ) where
@@ -113,3 +120,10 @@ module _ (text : List ℕ) where
       let s = mapped-told x [] (ranOf c) (readSteps 256 rest) g in
       rw (h, s .1, results-text (run c (s .0)))
       (ap (λ (y : Ran). cond (valid c) (report (answersText (y .codes) (y .values) ++ sheetText (y .last))) invalid) (s .2))
+
+  -- what a plan that starts valid leaves is valid: demand 3
+  pub last-valid : (c : Credentials) (rest : List ℕ) (x : Ran) → valid c ≡ true → ranSteps 256 c rest ≡ read x [] → valid (x .last) ≡ true
+  unfolding ranSteps
+  last-valid c rest x v g =
+      let s = mapped-told x [] (ranOf c) (readSteps 256 rest) g in
+      ap (λ (y : Ran). valid (y .last)) (sym (s .2)) ∙ demand-3 c v (s .0) .ends-valid

@@ -2,8 +2,9 @@
 use native.Mathlib.Omega.{arith}
 use native.Mathlib.Numerals.{add-one}
 use mathlib.Core.Path.{_≡_, refl, sym, ap, _∙_}
+use mathlib.Core.Bool.{Bool, true, false, cond}
 use mathlib.Core.List.{List, [], _∷_, _++_, append-assoc, append-nil}
-use Prim.Native.Nat.{ℕ, zero, suc, _+_, _-_, _*_, _<_, _≤_}
+use Prim.Native.Nat.{ℕ, zero, suc, _+_, _-_, _*_, _%_, _^_, _<_, _≤_}
 use lib.ListN.{length, getD, take, drop, length-append, drop-of-length-le}
 use lib.Seq.{drop-cons, length-take-le}
 use Rattle.credentials.specs.declared.Credentials.{Credentials}
@@ -12,23 +13,61 @@ use Rattle.format.specs.Line.{Read, read, faultAt, fault, below, mapped, readLi
 use Rattle.format.specs.Step.{stepKinds, attributeKey, readAttribute, stepOf, readStep}
 use Rattle.format.specs.Plan.{readSteps}
 use Rattle.format.proofs.Reading.{mapped-told}
+use Rattle.line_reader.specs.declared.Place.{Place}
+use Rattle.line_reader.specs.declared.Attribute.{Attribute}
+use Rattle.line_reader.specs.Positions.{attributeAt}
+use Rattle.line_reader.specs.Inside.{from, Values, linesAt, seen}
+use Rattle.line_reader.proofs.Answers.{lines-read, lines-most, lines-counted, attribute-read, attribute-missed, attribute-skipped}
 use Rattle.plan.specs.Inside.{Ran, codesOf, valuesOf, ranOf, ranSteps}
 
 -- ---- one step
 
 module _ {A : Type 0} (f : Step → A) (t : List ℕ) where
-  pub operands-at-fault : (line : ℕ) → readLines stepKinds t ≡ faultAt line → mapped f (readStep t) ≡ faultAt line
+  operands-at-fault : (line : ℕ) → readLines stepKinds t ≡ faultAt line → mapped f (readStep t) ≡ faultAt line
   unfolding readStep
   operands-at-fault line h = rw h
 
-  pub attribute-at-fault : (vs rest : List ℕ) → readLines stepKinds t ≡ read vs rest → readAttribute attributeKey rest ≡ fault → mapped f (readStep t) ≡ faultAt 5
+  attribute-at-fault : (vs rest : List ℕ) → readLines stepKinds t ≡ read vs rest → readAttribute attributeKey rest ≡ fault → mapped f (readStep t) ≡ faultAt 5
   unfolding readStep stepKinds
   attribute-at-fault vs rest h g = rw (h, g)
 
-  pub step-whole : (vs rest bs end : List ℕ) → readLines stepKinds t ≡ read vs rest → readAttribute attributeKey rest ≡ read bs end
+  step-whole : (vs rest bs end : List ℕ) → readLines stepKinds t ≡ read vs rest → readAttribute attributeKey rest ≡ read bs end
       → mapped f (readStep t) ≡ read (f (stepOf vs bs)) end
   unfolding readStep
   step-whole vs rest bs end h g = rw (h, g)
+
+-- its five lines, read one after the other from a position on
+module _ {A : Type 0} (f : Step → A) (text : List ℕ) (at : ℕ) (vs : List ℕ) (p : Place) (a : Attribute)
+    (lines : linesAt stepKinds text (from at) ≡ record { values = vs; place = p }) (attribute : a ≡ attributeAt attributeKey text p) where
+  operands : readLines stepKinds (drop at text) ≡ cond (p .fault) (faultAt (p .lines)) (read vs (drop (p .at) text))
+  unfolding stepKinds
+  operands = lines-read stepKinds text at (omega arith) ∙ ap (λ (v : Values). seen v text) lines
+
+  operands-by : (t : Bool) → p .fault ≡ t → readLines stepKinds (drop at text) ≡ cond t (faultAt (p .lines)) (read vs (drop (p .at) text))
+  operands-by t g = operands ∙ ap (λ (x : Bool). cond x (faultAt (p .lines)) (read vs (drop (p .at) text))) g
+
+  fault-by : (t : Bool) → p .fault ≡ t → a .place .fault ≡ true → (mapped f (readStep (drop at text)) ≡ faultAt (a .place .lines)) × (a .place .lines ≤ 5)
+  unfolding stepKinds
+  fault-by true g h =
+      let e : a .place .lines ≡ p .lines = ap (λ (x : Place). x .lines) (attribute-skipped attributeKey text p a attribute g) in
+      let m : p .lines ≤ 0 + 4 = rw lines at (lines-most text stepKinds (from at)) in
+      (operands-at-fault f (drop at text) (p .lines) (operands-by true g) ∙ ap faultAt (sym e), omega (arith, e, m))
+  fault-by false g h =
+      let m = attribute-missed attributeKey text p a attribute g h in
+      let c : p .lines ≡ 0 + 4 = rw lines at (lines-counted stepKinds text (from at) (omega arith)) g in
+      let e : a .place .lines ≡ 5 = ap (λ (x : Place). x .lines) (m .1) ∙ ap (λ (n : ℕ). (n + 1) % 2 ^ 32) c in
+      (attribute-at-fault f (drop at text) vs (drop (p .at) text) (operands-by false g) (m .0) ∙ ap faultAt (sym e), omega (arith, e))
+
+  -- one of them is at fault
+  pub step-fault : a .place .fault ≡ true → (mapped f (readStep (drop at text)) ≡ faultAt (a .place .lines)) × (a .place .lines ≤ 5)
+  step-fault h = fault-by (p .fault) refl h
+
+  -- none is
+  pub step-done : a .place .fault ≡ false
+      → (mapped f (readStep (drop at text)) ≡ read (f (stepOf vs (take (a .size) (a .bytes)))) (drop (a .place .at) text)) × (a .size ≤ 24) × (length (a .bytes) ≡ 24)
+  step-done h =
+      let t = attribute-read attributeKey text p a attribute h in
+      (step-whole f (drop at text) vs _ _ _ (operands-by false (t .before)) (t .is), t .size, t .bytes)
 
 -- ---- steps one after the other
 

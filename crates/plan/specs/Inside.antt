@@ -3,14 +3,10 @@ use Prim.Native.Nat.{ℕ, _≤_}
 use mathlib.Core.List.{List, [], _∷_, _++_}
 use lib.ListN.{length, take, drop}
 use Rattle.credentials.specs.declared.Credentials.{Credentials}
-use Rattle.rules.specs.Answers.{code, value, after}
 use Rattle.rules.specs.Run.{Step, Result, run, left}
-use Rattle.rules.specs.declared.Answer.{Answer}
 use Rattle.format.specs.Line.{linesText, Read, read, faultAt, mapped}
 use Rattle.format.specs.Plan.{readSteps}
 use Rattle.format.specs.Report.{resultKinds}
-use Rattle.plan.specs.declared.step.OperandLines.{OperandLines}
-use Rattle.plan.specs.declared.step.OperandLines.the-variants as operands
 use Rattle.plan.specs.declared.step.StepResult.{StepResult}
 use Rattle.plan.specs.declared.step.StepRun.{StepRun}
 use Rattle.plan.specs.declared.step.StepRun.the-variants as step
@@ -19,20 +15,7 @@ use Rattle.plan.specs.declared.runner.StepsRun.the-variants as steps
 
 -- ---- a step
 
--- the text after lines is told by its position
-abbrev pub seenOperands : OperandLines → List ℕ → Read (List ℕ)
-seenOperands (operands.Are o next) text = read (o .number ∷ o .a ∷ o .b ∷ o .c ∷ []) (drop next text)
-seenOperands (operands.Fault line) text = faultAt line
-
--- a fault is at one of the four lines
-abbrev pub OperandsEnd : OperandLines → List ℕ → Type 0
-OperandsEnd (operands.Are o next) text = next ≤ length text
-OperandsEnd (operands.Fault line) text = line ≤ 4
-
--- what an answer comes to
-unfoldable pub resultOf : Credentials → Answer → StepResult
-resultOf held answer = record { code = code answer; value = value answer; after = after held answer }
-
+-- the result of a step, and the text after it is told by its position
 abbrev pub sameResult : StepResult → Result
 sameResult r = record { code = r .code; value = r .value; after = r .after }
 

@@ -1,11 +1,14 @@
 // The report: its length first, then the results' lines and the sheet.
 ghost use mathlib.Core.Path.{_≡_};
-ghost use mathlib.Core.List.{_++_};
+ghost use mathlib.Core.Bool.{true};
+ghost use mathlib.Core.List.{[], _∷_, _++_};
 ghost use Prim.Native.Nat.{_+_, _≤_};
 ghost use lib.ListN.{length, take};
 ghost use lib.Seq.{sets};
 ghost use Rattle.format.specs.Sheet.{sheetText};
-ghost use Rattle.format.specs.Report.{report, outcome, buffer};
+ghost use Rattle.format.specs.Report.{resultKinds, report, outcome, buffer};
+ghost use Rattle.credentials.specs.Validity.{valid};
+ghost use Rattle.line_writer.specs.Inside.{linesPut};
 ghost use Rattle.plan.specs.Inside.{answersText};
 use codes::DONE;
 use codes::NO_ROOM;
@@ -47,14 +50,21 @@ fn write_results(buf: &mut [u8], codes: &[u8; 256], values: &[u64; 256], count: 
     while j < count {
         let code = wide(codes[j]);
         let value = values[j];
-        let p = write_decimal(buf, at, b"code=", code);
-        at = write_hex(buf, p, b"value=", VALUE_DIGITS, value);
+        at = write_result(buf, at, code, value);
         j += 1;
     }
     at
 }
 
-// The report of the first count results and the credentials last at the front of buf, or that it does not fit.
+// The two lines of a result into buf from the position at on, each that fits: the position past them.
+fn write_result(buf: &mut [u8], at: usize, code: u64, value: u64) -> usize
+    ensures { λ r. ⌜ (r ≡ linesPut resultKinds (code ∷ value ∷ []) (now (buf .entry)) at .at) × (now (buf .exit) ≡ linesPut resultKinds (code ∷ value ∷ []) (now (buf .entry)) at .buffer) ⌝ }
+{
+    let p = write_decimal(buf, at, b"code=", code);
+    write_hex(buf, p, b"value=", VALUE_DIGITS, value)
+}
+
+// The report of the first count results and the valid credentials last at the front of buf, or that it does not fit.
 pub(crate) fn write_report(
     buf: &mut [u8],
     codes: &[u8; 256],
@@ -62,7 +72,7 @@ pub(crate) fn write_report(
     count: usize,
     last: Credentials,
 ) -> Outcome
-    requires { ⌜ (length (now codes) ≡ 256) × (length (now values) ≡ 256) × (count ≤ 256) ⌝ }
+    requires { ⌜ (length (now codes) ≡ 256) × (length (now values) ≡ 256) × (count ≤ 256) × (valid last ≡ true) ⌝ }
     ensures { λ r. ⌜ (r ≡ outcome (report (answersText (take count (now (codes .entry))) (take count (now (values .entry))) ++ sheetText last)) (length (now (buf .entry)))) × (now (buf .exit) ≡ buffer (report (answersText (take count (now (codes .entry))) (take count (now (values .entry))) ++ sheetText last)) (now (buf .entry))) ⌝ }
 {
     let size = results_length(codes, values, count) + sheet_writer::sheet_length(last);

@@ -1,6 +1,9 @@
 // The steps, one after the other, and the plan as a whole.
 ghost use mathlib.Core.Path.{_≡_};
 ghost use lib.ListN.{length, drop};
+ghost use Rattle.credentials.specs.Validity.{valid};
+ghost use Rattle.format.specs.Line.{read};
+ghost use Rattle.format.specs.Sheet.{readFront};
 ghost use Rattle.format.specs.Report.{verdict, outcome, buffer};
 ghost use Rattle.plan.specs.Inside.{ranSteps, seenSteps, StepsEnd};
 use crate::MOST_STEPS;
@@ -12,12 +15,11 @@ use crate::step::run_step;
 use codes::INVALID_CREDENTIALS;
 use codes::MALFORMED;
 use credentials::Credentials;
-use credentials::is_valid;
 use format::Outcome;
 use sheet_reader::Front;
 
 // How many steps there are and what the last one leaves, or the first line of the steps that is at fault.
-pub enum StepsRun {
+enum StepsRun {
     Done(usize, Credentials),
     Fault(u32),
 }
@@ -62,35 +64,46 @@ pub fn run_plan(plan: &[u8], report: &mut [u8]) -> Outcome
     ensures { λ r. ⌜ (r ≡ outcome (verdict (now (plan .entry))) (length (now (report .entry)))) × (now (report .exit) ≡ buffer (verdict (now (plan .entry))) (now (report .entry))) ⌝ }
 {
     match sheet_reader::read_front(plan) {
-        Front::Fault(line) => {
-            return Outcome {
-                code: MALFORMED,
-                line,
-                length: 0,
-            };
+        Front::Fault(line) => refused(MALFORMED, line),
+        Front::Invalid(start, first) => run_from(plan, first, start, false, report),
+        Front::Sheet(start, first) => run_from(plan, first, start, true, report),
+    }
+}
+
+// A plan whose sheet ends at the position first and has the credentials start, accepted where they are valid: a fault further on
+// comes first.
+fn run_from(
+    plan: &[u8],
+    first: usize,
+    start: Credentials,
+    accepted: bool,
+    report: &mut [u8],
+) -> Outcome
+    requires { ⌜ (readFront (now plan) ≡ read start (drop first (now plan))) × (valid start ≡ accepted) ⌝ }
+    ensures { λ r. ⌜ (r ≡ outcome (verdict (now (plan .entry))) (length (now (report .entry)))) × (now (report .exit) ≡ buffer (verdict (now (plan .entry))) (now (report .entry))) ⌝ }
+{
+    let mut codes = [0u8; 256];
+    let mut values = [0u64; 256];
+    match run_steps(plan, first, start, &mut codes, &mut values) {
+        StepsRun::Fault(line) => {
+            return refused(MALFORMED, SHEET_LINES + line);
         }
-        Front::Sheet(start, first) => {
-            let mut codes = [0u8; 256];
-            let mut values = [0u64; 256];
-            match run_steps(plan, first, start, &mut codes, &mut values) {
-                StepsRun::Fault(line) => {
-                    return Outcome {
-                        code: MALFORMED,
-                        line: SHEET_LINES + line,
-                        length: 0,
-                    };
-                }
-                StepsRun::Done(count, last) => {
-                    if is_valid(start) {
-                        return write_report(report, &codes, &values, count, last);
-                    }
-                    return Outcome {
-                        code: INVALID_CREDENTIALS,
-                        line: 0,
-                        length: 0,
-                    };
-                }
+        StepsRun::Done(count, last) => {
+            if accepted {
+                return write_report(report, &codes, &values, count, last);
             }
+            return refused(INVALID_CREDENTIALS, 0);
         }
+    }
+}
+
+// A plan that is refused.
+fn refused(code: u8, line: u32) -> Outcome
+    ensures { λ r. ⌜ r ≡ record { code = code; line = line; length = 0 } ⌝ }
+{
+    Outcome {
+        code,
+        line,
+        length: 0,
     }
 }

@@ -1,6 +1,5 @@
 -- Laws of the sheet's three groups of lines, read one after the other. Assumes nothing.
 use native.Mathlib.Omega.{arith}
-use native.Mathlib.Nat.{zero-add}
 use mathlib.Core.Path.{_≡_, refl, sym, ap, _∙_}
 use mathlib.Core.Bool.{Bool, true, false, cond}
 use mathlib.Core.List.{List, [], _∷_, _++_}
@@ -11,50 +10,42 @@ use Rattle.credentials.specs.Validity.{valid}
 use Rattle.credentials.specs.declared.Ids.{Ids}
 use Rattle.credentials.specs.declared.Sets.{Sets}
 use Rattle.credentials.specs.declared.Credentials.{Credentials}
-use Rattle.format.specs.Line.{Read, read, faultAt, below, mapped, readLines}
+use Rattle.format.specs.Line.{read, faultAt, mapped, readLines}
 use Rattle.format.specs.Sheet.{idKinds, setKinds, flagKinds, sheetKinds, credentialsOf, readFront, idValues, setValues}
 use Rattle.line_reader.specs.declared.Place.{Place}
-use Rattle.line_reader.specs.Inside.{Values, linesAt, seen}
-use Rattle.line_reader.proofs.Answers.{lines-seen, lines-grouped, lines-within}
+use Rattle.line_reader.specs.Inside.{from, Values, linesAt, seen}
+use Rattle.line_reader.proofs.Answers.{lines-read, lines-grouped, lines-within}
 use Rattle.line_reader.proofs.LineLaws.{position}
 use Rattle.sheet_reader.specs.declared.Front.the-variants.{Sheet, Invalid, Fault}
 use Rattle.sheet_reader.specs.Positions.{placedFront, frontOf}
-
--- the start of a text
-abbrev pub start : Place
-start = record { at = 0; lines = 0; fault = false }
-
-below-none : {A : Type 0} (r : Read A) → below 0 r ≡ r
-below-none (read v t) = refl
-below-none (faultAt line) = ap faultAt (zero-add line)
 
 mapped-choice : {A B : Type 0} (f : A → B) (t : Bool) (line : ℕ) (v : A) (rest : List ℕ) → mapped f (cond t (faultAt line) (read v rest)) ≡ cond t (faultAt line) (read (f v) rest)
 mapped-choice f true line v rest = refl
 mapped-choice f false line v rest = refl
 
 module _ (text : List ℕ) (u : Ids) (s : Sets) (securebits nnp : ℕ) (p q end : Place)
-    (ids : linesAt idKinds text start ≡ record { values = idValues u; place = p })
+    (ids : linesAt idKinds text (from 0) ≡ record { values = idValues u; place = p })
     (sets : linesAt setKinds text p ≡ record { values = setValues s; place = q })
     (flags : linesAt flagKinds text q ≡ record { values = securebits ∷ nnp ∷ []; place = end }) where
   -- the credentials of the lines' values
   abbrev pub held : Credentials
   held = record { uids = u; sets = s; securebits = securebits; nnp = eqb nnp 1 }
 
-  grouped : linesAt sheetKinds text start ≡ record { values = idValues u ++ (setValues s ++ (securebits ∷ nnp ∷ [])); place = end }
+  grouped : linesAt sheetKinds text (from 0) ≡ record { values = idValues u ++ (setValues s ++ (securebits ∷ nnp ∷ [])); place = end }
   unfolding sheetKinds
   grouped =
-      lines-grouped idKinds (setKinds ++ flagKinds) text start
+      lines-grouped idKinds (setKinds ++ flagKinds) text (from 0)
       ∙ rw (ids, lines-grouped setKinds flagKinds text p, sets, flags)
 
   front : readFront text ≡ cond (end .fault) (faultAt (end .lines)) (read held (drop (end .at) text))
   unfolding readFront sheetKinds idKinds setKinds flagKinds
   front =
       ap (mapped credentialsOf)
-      (sym (below-none (readLines sheetKinds text)) ∙ lines-seen sheetKinds text start refl (omega arith) ∙ ap (λ (v : Values). seen v text) grouped)
+      (lines-read sheetKinds text 0 (omega arith) ∙ ap (λ (v : Values). seen v text) grouped)
       ∙ mapped-choice credentialsOf (end .fault) (end .lines) _ (drop (end .at) text)
 
   within : end .at ≤ length text
-  within = rw grouped at (lines-within text sheetKinds start (omega arith) .0)
+  within = rw grouped at (lines-within text sheetKinds (from 0) (omega arith))
 
   pub front-at-fault : end .fault ≡ true → Fault (end .lines) ≡ frontOf text
   unfolding frontOf

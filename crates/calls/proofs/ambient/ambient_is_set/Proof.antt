@@ -1,5 +1,5 @@
 -- `calls::ambient::ambient_is_set` meets its contract. Assumes nothing.
-use Rattle.calls.proofs.Flags.{cast-is-number}
+use Rattle.rules.proofs.Flags.{cast-is-number}
 use Rattle.rules.specs.Ambient.{ambientIsSet}
 use borrow.Author.Needs.{needs}
 use Rattle.calls.proofs.ambient.ambient_is_set.Statement.{statement}

@@ -1,6 +1,6 @@
 -- `calls::bounding::bounding_read` meets its contract. Assumes nothing.
 use Rattle.rules.specs.Bounding.{boundingRead}
-use Rattle.calls.proofs.Flags.{cast-is-number}
+use Rattle.rules.proofs.Flags.{cast-is-number}
 use borrow.Author.Needs.{needs}
 use Rattle.calls.proofs.bounding.bounding_read.Statement.{statement}
 use Rattle.calls.proofs.bounding.bounding_read.Tie as tie

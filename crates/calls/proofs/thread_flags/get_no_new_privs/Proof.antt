@@ -1,5 +1,5 @@
 -- `calls::thread_flags::get_no_new_privs` meets its contract. Assumes nothing.
-use Rattle.calls.proofs.Flags.{cast-is-number}
+use Rattle.rules.proofs.Flags.{cast-is-number}
 use Rattle.rules.specs.ThreadFlags.{getNoNewPrivs}
 use borrow.Author.Needs.{needs}
 use Rattle.calls.proofs.thread_flags.get_no_new_privs.Statement.{statement}

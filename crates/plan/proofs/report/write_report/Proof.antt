@@ -4,7 +4,7 @@ use native.Mathlib.Omega.{arith}
 use lib.ListN.{take}
 use Rattle.format.specs.Sheet.{sheetText}
 use Rattle.plan.specs.Inside.{answersText}
-use Rattle.plan.proofs.ReportLaws.{report-done, report-no-room}
+use Rattle.plan.proofs.ReportLaws.{report-done, report-no-room, sheet-put}
 use borrow.Author.Needs.{needs}
 use Rattle.plan.proofs.report.write_report.Statement.{statement}
 use Rattle.plan.proofs.report.write_report.Tie as tie
@@ -32,10 +32,11 @@ same-length c = c .before .before .write-at .kept .0 ∙ c .before .before .befo
 
 returns : tie.Need-returns
 returns c =
-    let a = c .before .before .before .before .before .before .before .before .before .before .before .before .args in
+    let s = c .before .before .before .before .before .before .before .before .before .before .before .before in
+    let a = s .args in
     let answers = answersText (take (a .count) (a .codes .now)) (take (a .count) (a .values .now)) in
     let results = c .before .before .before .before .before .before .write-results .ensures in
-    report-done answers (sheetText (a .last)) (a .buf .now) _ _ _ _ (omega (arith, c .before .before .before .before .before .before .before .before .before .before .results-length .ensures .0, c .before .before .before .before .before .before .before .before .before .sheet-length .ensures .0)) (c .before .before .before .before .before .before .before .before .if1 .taken) (results .0) (results .1) (c .before .before .write-at .ensures .1)
+    report-done answers (sheetText (a .last)) (a .buf .now) _ _ _ _ (omega (arith, c .before .before .before .before .before .before .before .before .before .before .results-length .ensures .0, c .before .before .before .before .before .before .before .before .before .sheet-length .ensures .0)) (c .before .before .before .before .before .before .before .before .if1 .taken) (results .0) (results .1) (c .before .before .write-at .ensures .1 ∙ sheet-put (a .last) _ _ (s .pre .3))
 
 returns-2 : tie.Need-returns-2
 returns-2 c =

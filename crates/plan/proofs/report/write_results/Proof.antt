@@ -6,19 +6,20 @@ use native.Mathlib.Omega.{arith}
 use borrow.Author.Needs.{needs}
 use lib.ListN.{length, take, drop, getD, length-append}
 use lib.Seq.{sets}
-use Rattle.format.specs.Line.{bytes, keyedText, decimalText, hexText, linesText}
+use Rattle.format.specs.Line.{linesText}
 use Rattle.format.specs.Report.{resultKinds}
-use Rattle.line_writer.proofs.LineLaws.{written-first, written-next}
+use Rattle.line_writer.specs.Inside.{Put, linesPut}
+use Rattle.line_writer.proofs.LineLaws.{lines-put}
 use Rattle.plan.specs.Inside.{answersText}
-use Rattle.plan.proofs.ReportLaws.{pair-text, lines-step, lines-end, put-lines}
+use Rattle.plan.proofs.ReportLaws.{lines-step, lines-end, put-lines}
 use Rattle.plan.proofs.report.write_results.Statement.{statement}
 use Rattle.plan.proofs.report.write_results.Tie as tie
 
 abbrev Inv-loop : tie.InvT-loop
-Inv-loop buf₀ codes values count at₀ j₀ t10 t11 buf at j = (sets buf₀ 0 (answersText (take count codes) (take count values)) ≡ sets buf at (answersText (drop j (take count codes)) (drop j (take count values)))) × (length (answersText (take count codes) (take count values)) ≡ at + length (answersText (drop j (take count codes)) (drop j (take count values)))) × (j ≤ count) × (length buf ≡ length buf₀)
+Inv-loop buf₀ codes values count at₀ j₀ buf at j = (sets buf₀ 0 (answersText (take count codes) (take count values)) ≡ sets buf at (answersText (drop j (take count codes)) (drop j (take count values)))) × (length (answersText (take count codes) (take count values)) ≡ at + length (answersText (drop j (take count codes)) (drop j (take count values)))) × (j ≤ count) × (length buf ≡ length buf₀)
 
 abbrev μ-loop : tie.MeasureT-loop
-μ-loop buf₀ codes values count at₀ j₀ t10 t11 buf at j = count - j
+μ-loop buf₀ codes values count at₀ j₀ buf at j = count - j
 
 loop-holds : tie.Need-loop-holds Inv-loop μ-loop
 loop-holds c = (refl, omega arith, search needs, refl)
@@ -35,17 +36,8 @@ mul-value c = search needs
 element-copy-out-value : tie.Need-element-copy-out-value Inv-loop μ-loop
 element-copy-out-value c = search needs
 
-slice-aggregate-write-decimal : tie.Need-slice-aggregate-write-decimal Inv-loop μ-loop
-slice-aggregate-write-decimal c = search needs
-
-write-decimal-requires : tie.Need-write-decimal-requires Inv-loop μ-loop
-write-decimal-requires c κs = tt
-
-slice-aggregate-write-hex : tie.Need-slice-aggregate-write-hex Inv-loop μ-loop
-slice-aggregate-write-hex c = search needs
-
-write-hex-requires : tie.Need-write-hex-requires Inv-loop μ-loop
-write-hex-requires c κs = tt
+write-result-requires : tie.Need-write-result-requires Inv-loop μ-loop
+write-result-requires c κs = tt
 
 add-j : tie.Need-add-j Inv-loop μ-loop
 add-j c = search needs
@@ -55,27 +47,23 @@ loop-less c = search needs
 
 loop-again : tie.Need-loop-again Inv-loop μ-loop
 loop-again c =
-    let l = c .before .before .before .before .before .before .before .before .before .before .before .before .before .before .loop in
-    let s = c .before .before .before .before .before .before .before .before .before .before .before .before .before .before .before .before in
+    let w = c .before .before in
+    let l = c .before .before .before .before .before .before .before .before .loop in
+    let s = c .before .before .before .before .before .before .before .before .before .before in
     let a = s .args in
-    let h = c .before .before .before .before .before .before .before .before .before .before .before .before .before .loop-test .taken in
-    let code = getD (a .codes .now) (l .j) 0 in
-    let value = getD (a .values .now) (l .j) 0 in
-    let t1 = keyedText (bytes "code=") (decimalText code) in
-    let t2 = keyedText (bytes "value=") (hexText 16 value) in
-    let first = rw (c .before .before .before .before .before .before .before .before .before .before .before .wide .ensures .0) at (c .before .before .before .before .before .before .before .write-decimal .ensures) in
-    let second = c .before .before .write-hex .ensures in
-    let pairs = pair-text code value in
-    let size = ap length pairs in
-    let one = lines-step (a .codes .now) (a .values .now) (a .count) (omega (arith, s .pre .0, s .pre .2)) (omega (arith, s .pre .1, s .pre .2)) (l .j) h in
-    let rest = ap length one ∙ length-append (linesText resultKinds (code ∷ value ∷ [])) _ in
-    let s1 = written-first (l .buf) (l .at) t1 _ _ (omega (arith, s .pre .3, l .inv .1, l .inv .3, rest, size, length-append t1 t2)) (first .0) (first .1) in
-    let s2 = written-next (l .buf) (l .at) t1 t2 _ _ _ _ s1 (omega (arith, s .pre .3, l .inv .1, l .inv .3, rest, size)) (second .0) (second .1) in
-    let both = rw (← pairs) at s2 in (
-      l .inv .0 ∙ put-lines (a .codes .now) (a .values .now) (a .count) (omega (arith, s .pre .0, s .pre .2)) (omega (arith, s .pre .1, s .pre .2)) (l .buf) _ (l .at) _ (l .j) h (both .0) (both .1),
-      omega (arith, l .inv .1, rest, both .0),
+    let h = c .before .before .before .before .before .before .before .loop-test .taken in
+    let p : a .count ≤ length (a .codes .now) = omega (arith, s .pre .0, s .pre .2) in
+    let q : a .count ≤ length (a .values .now) = omega (arith, s .pre .1, s .pre .2) in
+    let vs = getD (a .codes .now) (l .j) 0 ∷ getD (a .values .now) (l .j) 0 ∷ [] in
+    let one = ap length (lines-step (a .codes .now) (a .values .now) (a .count) p q (l .j) h) ∙ length-append (linesText resultKinds vs) _ in
+    let put = lines-put resultKinds vs (l .buf) (l .at) (omega (arith, s .pre .3, l .inv .1, l .inv .3, one)) in
+    let e = rw (c .before .before .before .before .before .wide .ensures .0) at (w .write-result .ensures) in
+    let at = e .0 ∙ ap (λ (x : Put). x .at) put in
+    let buf = e .1 ∙ ap (λ (x : Put). x .buffer) put in (
+      l .inv .0 ∙ put-lines (a .codes .now) (a .values .now) (a .count) p q (l .buf) _ (l .at) _ (l .j) h at buf,
+      omega (arith, l .inv .1, one, at),
       search needs,
-      c .before .before .write-hex .kept .0 ∙ c .before .before .before .before .before .before .before .write-decimal .kept .0 ∙ l .inv .3,
+      w .write-result .kept .0 ∙ l .inv .3,
     )
 
 same-length : tie.Need-same-length Inv-loop μ-loop
@@ -100,10 +88,7 @@ write-results-spec =
     wide-requires
     mul-value
     element-copy-out-value
-    slice-aggregate-write-decimal
-    write-decimal-requires
-    slice-aggregate-write-hex
-    write-hex-requires
+    write-result-requires
     add-j
     loop-less
     loop-again

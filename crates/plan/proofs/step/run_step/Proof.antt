@@ -1,13 +1,9 @@
 -- `plan::step::run_step` meets its contract. Assumes nothing.
-use mathlib.Core.Path.{sym, ap, _∙_}
+use mathlib.Core.Path.{sym, _∙_}
 use native.Mathlib.Omega.{arith}
 use native.Mathlib.Nat.{sub-zero}
-use Rattle.rules.specs.Run.{result}
-use Rattle.line_reader.specs.declared.Attribute.{Attribute}
-use Rattle.line_reader.proofs.Answers.{attribute-read, attribute-fault}
-use Rattle.plan.specs.declared.step.OperandLines.{OperandLines}
-use Rattle.plan.specs.Inside.{seenOperands, resultOf}
-use Rattle.plan.proofs.StepLaws.{operands-at-fault, attribute-at-fault, step-whole}
+use Rattle.rules.specs.Run.{Step, result}
+use Rattle.plan.proofs.StepLaws.{step-fault, step-done}
 use borrow.Author.Needs.{needs}
 use Rattle.plan.proofs.step.run_step.Statement.{statement}
 use Rattle.plan.proofs.step.run_step.Tie as tie
@@ -15,23 +11,16 @@ use Rattle.plan.proofs.step.run_step.Tie as tie
 read-operands-requires : tie.Need-read-operands-requires
 read-operands-requires c κs = tt
 
-enum-known-line : tie.Need-enum-known-line
-enum-known-line c = search needs
-
-returns : tie.Need-returns
-returns c =
-    let t = c .before .before .before .before .before .args .text .now in
-    let e = rw (c .before .line .given .1) at (c .before .before .before .read-operands .ensures .1) in
-    (sym (operands-at-fault _ _ _ (sym (c .before .before .before .read-operands .ensures .0) ∙ ap (λ (x : OperandLines). seenOperands x t) (c .before .line .given .1))), omega (arith, e))
-
-enum-known-operands : tie.Need-enum-known-operands
-enum-known-operands c = search needs
-
 slice-aggregate-read-attribute : tie.Need-slice-aggregate-read-attribute
 slice-aggregate-read-attribute c = search needs
 
 read-attribute-requires : tie.Need-read-attribute-requires
 read-attribute-requires c κs = tt
+
+returns : tie.Need-returns
+returns c =
+    let s = step-fault _ _ _ _ _ _ (c .before .before .before .before .read-operands .ensures) (c .before .before .read-attribute .ensures) (c .if1 .taken) in
+    (sym (s .0), s .1)
 
 sub-perform : tie.Need-sub-perform
 sub-perform c = search needs
@@ -41,44 +30,40 @@ part-perform-start c = search needs
 
 part-perform-end : tie.Need-part-perform-end
 part-perform-end c =
-    let told = attribute-read _ _ _ _ (c .before .before .before .read-attribute .ensures) (c .before .before .if1 .taken) in
-    omega (arith, told .size, told .bytes)
+    let s = step-done (λ (x : Step). x) _ _ _ _ _ (c .before .before .before .before .before .before .read-operands .ensures) (c .before .before .before .before .read-attribute .ensures) (c .before .before .if1 .left) in
+    omega (arith, s .1, s .2)
 
 perform-requires : tie.Need-perform-requires
 perform-requires c κs = tt
 
-result-of-requires : tie.Need-result-of-requires
-result-of-requires c κs = tt
+code-requires : tie.Need-code-requires
+code-requires c κs = tt
+
+value-requires : tie.Need-value-requires
+value-requires c κs = tt
+
+after-requires : tie.Need-after-requires
+after-requires c κs = tt
 
 returns-2 : tie.Need-returns-2
-unfolding result resultOf
+unfolding result
 returns-2 c =
-    let t = c .before .before .before .before .before .before .before .before .before .before .before .before .before .args .text .now in
-    let operands = sym (c .before .before .before .before .before .before .before .before .before .before .before .read-operands .ensures .0) ∙ ap (λ (x : OperandLines). seenOperands x t) (c .before .before .before .before .before .before .before .before .before .operands .given .1) in
-    let told = attribute-read _ _ _ _ (c .before .before .before .before .before .before .read-attribute .ensures) (c .before .before .before .before .before .if1 .taken) in
-    (rw (step-whole _ _ _ _ _ _ operands (told .is), c .result-of .ensures, c .before .perform .ensures, sub-zero), search needs)
-
-returns-3 : tie.Need-returns-3
-returns-3 c =
-    let t = c .before .before .before .before .before .before .before .before .args .text .now in
-    let operands = sym (c .before .before .before .before .before .before .read-operands .ensures .0) ∙ ap (λ (x : OperandLines). seenOperands x t) (c .before .before .before .before .operands .given .1) in
-    let missed = attribute-fault _ _ _ (sym (ap (λ (x : Attribute). x .found) (c .before .read-attribute .ensures)) ∙ c .if1 .left) in
-    (sym (attribute-at-fault _ _ _ _ operands missed), search needs)
+    let s = step-done (result (c .before .before .before .before .before .before .before .before .before .before .before .before .before .args .held)) _ _ _ _ _ (c .before .before .before .before .before .before .before .before .before .before .before .read-operands .ensures) (c .before .before .before .before .before .before .before .before .before .read-attribute .ensures) (c .before .before .before .before .before .before .before .if1 .left) in
+    (rw (s .0, c .after .ensures, c .before .value .ensures, c .before .before .code .ensures, c .before .before .before .perform .ensures, sub-zero), search needs)
 
 pub run-step-spec : {M : Type 1} → statement M
 run-step-spec =
     tie.close
     (tie.spec
     read-operands-requires
-    enum-known-line
-    returns
-    enum-known-operands
     slice-aggregate-read-attribute
     read-attribute-requires
+    returns
     sub-perform
     part-perform-start
     part-perform-end
     perform-requires
-    result-of-requires
-    returns-2
-    returns-3)
+    code-requires
+    value-requires
+    after-requires
+    returns-2)
