@@ -1,0 +1,62 @@
+-- `plan::runner::run_plan` meets its contract. Assumes nothing.
+use mathlib.Core.Path.{refl, sym, _∙_}
+use Rattle.sheet_reader.proofs.Whole.{front-told, front-told-invalid, front-fault}
+use Rattle.plan.proofs.ReportLaws.{front-at-fault}
+use borrow.Author.Needs.{needs}
+use Rattle.plan.proofs.runner.run_plan.Statement.{statement}
+use Rattle.plan.proofs.runner.run_plan.Tie as tie
+
+read-front-requires : tie.Need-read-front-requires
+read-front-requires c κs = search needs
+
+enum-known-line : tie.Need-enum-known-line
+enum-known-line c = search needs
+
+refused-requires : tie.Need-refused-requires
+refused-requires c κs = search needs
+
+enum-known-start : tie.Need-enum-known-start
+enum-known-start c = search needs
+
+run-from-requires : tie.Need-run-from-requires
+run-from-requires c κs = let t = front-told-invalid _ _ _ (sym (c .before .before .before .before .read-front .ensures) ∙ c .before .before .start .given .1) in (t .is, t .validity)
+
+enum-known-start-2 : tie.Need-enum-known-start-2
+enum-known-start-2 c = search needs
+
+run-from-requires-2 : tie.Need-run-from-requires-2
+run-from-requires-2 c κs = let t = front-told _ _ _ (sym (c .before .before .before .before .read-front .ensures) ∙ c .before .before .start2 .given .1) in (t .is, t .validity)
+
+returns : tie.Need-returns
+returns c =
+    let t = front-fault _ _ (sym (c .before .before .before .before .read-front .ensures) ∙ c .before .before .line .given .1) in
+    rw (front-at-fault _ _ t) (c .refused .ensures, refl)
+
+same-length : tie.Need-same-length
+same-length c = search needs
+
+returns-2 : tie.Need-returns-2
+returns-2 c = search needs
+
+same-length-2 : tie.Need-same-length-2
+same-length-2 c = search needs
+
+returns-3 : tie.Need-returns-3
+returns-3 c = search needs
+
+pub run-plan-spec : {M : Type 1} → statement M
+run-plan-spec =
+    tie.close
+    (tie.spec
+    read-front-requires
+    enum-known-line
+    refused-requires
+    enum-known-start
+    run-from-requires
+    enum-known-start-2
+    run-from-requires-2
+    returns
+    same-length
+    returns-2
+    same-length-2
+    returns-3)
