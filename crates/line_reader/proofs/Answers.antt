@@ -128,6 +128,11 @@ lines-grouped (k ∷ ks) ls text p =
     let n = numberAt (keyText k) (k .form) text p in
     ap (λ (x : Values). record { values = n .value ∷ x .values; place = x .place }) (lines-grouped ks ls text (n .place))
 
+-- and where the first group has a fault, the second is not read
+pub fault-early : (ks ls : List Kind) (text : List ℕ) (p : Place) → linesAt ks text p .place .fault ≡ true
+    → linesAt (ks ++ ls) text p .place ≡ linesAt ks text p .place
+fault-early ks ls text p h = ap (λ (v : Values). v .place) (lines-grouped ks ls text p) ∙ lines-stay ls text (linesAt ks text p .place) h
+
 -- from a position on
 pub lines-read : (ks : List Kind) (text : List ℕ) (at : ℕ) → length ks < 2 ^ 32 → readLines ks (drop at text) ≡ seen (linesAt ks text (from at)) text
 lines-read ks text at b = sym (below-none (readLines ks (drop at text))) ∙ lines-seen ks text (from at) refl (omega (arith, b))

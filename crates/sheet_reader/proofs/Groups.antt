@@ -10,11 +10,11 @@ use Rattle.credentials.specs.Validity.{valid}
 use Rattle.credentials.specs.declared.Ids.{Ids}
 use Rattle.credentials.specs.declared.Sets.{Sets}
 use Rattle.credentials.specs.declared.Credentials.{Credentials}
-use Rattle.format.specs.Line.{read, faultAt, mapped, readLines}
+use Rattle.format.specs.Line.{Read, read, faultAt, mapped, readLines}
 use Rattle.format.specs.Sheet.{idKinds, setKinds, flagKinds, sheetKinds, credentialsOf, readFront, idValues, setValues}
 use Rattle.line_reader.specs.declared.Place.{Place}
 use Rattle.line_reader.specs.Inside.{from, Values, linesAt, seen}
-use Rattle.line_reader.proofs.Answers.{lines-read, lines-grouped, lines-within}
+use Rattle.line_reader.proofs.Answers.{fault-early, lines-read, lines-grouped, lines-within}
 use Rattle.line_reader.proofs.LineLaws.{position}
 use Rattle.sheet_reader.specs.declared.Front.the-variants.{Sheet, Invalid, Fault}
 use Rattle.sheet_reader.specs.Positions.{placedFront, frontOf}
@@ -22,6 +22,31 @@ use Rattle.sheet_reader.specs.Positions.{placedFront, frontOf}
 mapped-choice : {A B : Type 0} (f : A → B) (t : Bool) (line : ℕ) (v : A) (rest : List ℕ) → mapped f (cond t (faultAt line) (read v rest)) ≡ cond t (faultAt line) (read (f v) rest)
 mapped-choice f true line v rest = refl
 mapped-choice f false line v rest = refl
+
+-- a fault in the sheet's lines
+fault-at : (text : List ℕ) (v : Values) → linesAt sheetKinds text (from 0) ≡ v → v .place .fault ≡ true → Fault (v .place .lines) ≡ frontOf text
+unfolding frontOf readFront sheetKinds idKinds setKinds flagKinds
+fault-at text v e h =
+    sym (
+    ap (λ (r : Read (List ℕ)). placedFront text (mapped credentialsOf r))
+    (lines-read sheetKinds text 0 (omega arith) ∙ ap (λ (x : Values). seen x text) e ∙ ap (λ (t : Bool). cond t (faultAt (v .place .lines)) (read (v .values) (drop (v .place .at) text))) h)
+    )
+
+module _ (text vs : List ℕ) (p : Place) (ids : linesAt idKinds text (from 0) ≡ record { values = vs; place = p }) where
+  -- in the IDs
+  pub ids-at-fault : p .fault ≡ true → Fault (p .lines) ≡ frontOf text
+  unfolding sheetKinds
+  ids-at-fault h =
+      let q : linesAt sheetKinds text (from 0) .place ≡ p = rw ids at (fault-early idKinds (setKinds ++ flagKinds) text (from 0)) h in
+      ap (λ (x : Place). Fault (x .lines)) (sym q) ∙ fault-at text _ refl (ap (λ (x : Place). x .fault) q ∙ h)
+
+  -- in the sets
+  pub sets-at-fault : (ws : List ℕ) (q : Place) → linesAt setKinds text p ≡ record { values = ws; place = q } → q .fault ≡ true → Fault (q .lines) ≡ frontOf text
+  unfolding sheetKinds
+  sets-at-fault ws q sets h =
+      let e : linesAt (setKinds ++ flagKinds) text p .place ≡ q = rw sets at (fault-early setKinds flagKinds text p) h in
+      let r : linesAt sheetKinds text (from 0) .place ≡ q = ap (λ (v : Values). v .place) (lines-grouped idKinds (setKinds ++ flagKinds) text (from 0)) ∙ ap (λ (v : Values). linesAt (setKinds ++ flagKinds) text (v .place) .place) ids ∙ e in
+      ap (λ (x : Place). Fault (x .lines)) (sym r) ∙ fault-at text _ refl (ap (λ (x : Place). x .fault) r ∙ h)
 
 module _ (text : List ℕ) (u : Ids) (s : Sets) (securebits nnp : ℕ) (p q end : Place)
     (ids : linesAt idKinds text (from 0) ≡ record { values = idValues u; place = p })

@@ -117,8 +117,16 @@ pub fn read_front(text: &[u8]) -> Front
         fault: false,
     };
     let ids = read_ids(text, start);
-    let held = read_sets(text, ids.place);
-    let flags = read_flags(text, held.place);
+    let past_ids = ids.place;
+    if past_ids.fault {
+        return Front::Fault(past_ids.lines);
+    }
+    let held = read_sets(text, past_ids);
+    let past_sets = held.place;
+    if past_sets.fault {
+        return Front::Fault(past_sets.lines);
+    }
+    let flags = read_flags(text, past_sets);
     let end = flags.place;
     if end.fault {
         return Front::Fault(end.lines);
