@@ -3,14 +3,19 @@ use native.Mathlib.Omega.{arith}
 use native.Mathlib.Nat.{zero-add}
 use mathlib.Core.Path.{_≡_, refl, sym, _∙_}
 use mathlib.Core.Bool.{Bool, true, false, _&&_, false≢true}
-use mathlib.Core.List.{List, _++_}
+use mathlib.Core.List.{List, [], _∷_, _++_}
 use Prim.Native.Nat.{ℕ, _+_, _<_, _≤_}
 use borrow.Author.Tests.{le-leb, lt-leb, eqb-true}
 use lib.Dec.{eqb, leb}
 use lib.ListN.{length, drop, getD}
 use lib.Seq.{sets, sets-eq}
-use Rattle.format.specs.Sheet.{idKinds, setKinds, flagKinds, sheetKinds}
-use Rattle.capi.specs.Interface.{joined, givenNumber, givenIn, areValues}
+use types.Run.{OneOf, miss}
+use denote.Enum.Declared.{tagOf}
+use Rattle.format.proofs.SheetReading.{the-type}
+use Rattle.format.specs.declared.SheetReading.{SheetReading}
+use Rattle.format.specs.declared.SheetReading.the-variants.{Sheet, Malformed, Invalid}
+use Rattle.format.specs.Sheet.{idKinds, setKinds, flagKinds, sheetKinds, sheetCode, sheetLine}
+use Rattle.capi.specs.Interface.{joined, givenNumber, givenIn, sheetNumber, sheetGiven, areValues}
 
 module _ (vs old : List ℕ) where
   -- there is room
@@ -35,3 +40,10 @@ and-first false y h = absurd (false≢true h)
 pub eleven : (vs : List ℕ) → areValues vs ≡ true → length vs ≡ 11
 unfolding areValues sheetKinds idKinds setKinds flagKinds
 eleven vs h = eqb-true (length vs) 11 (and-first (eqb (length vs) 11) (leb (getD vs 10 0) 1) h)
+
+-- a sheet that is not read
+pub sheet-refused : (r : SheetReading) (old : List ℕ) → OneOf (1 ∷ 2 ∷ []) (tagOf the-type r)
+    → (joined (sheetCode r) (sheetLine r) ≡ sheetNumber r (length old)) × (old ≡ sheetGiven r old)
+sheet-refused (Sheet c) old h = absurd (miss (1 ∷ 2 ∷ []) 0 tt h)
+sheet-refused (Malformed line) old h = (refl, refl)
+sheet-refused Invalid old h = (refl, refl)

@@ -15,9 +15,7 @@ use attribute::Reading;
 use codes::DONE;
 use codes::INVALID_ARGUMENT;
 use codes::INVALID_CREDENTIALS;
-use codes::MALFORMED;
 use codes::NO_ROOM;
-use codes::UNREADABLE_ATTRIBUTE;
 use credentials::Credentials;
 use credentials::Ids;
 use credentials::Sets;
@@ -50,21 +48,18 @@ pub extern "C" fn urrezkalu_run_plan(plan: &[u8], report: &mut [u8]) -> u64
 pub extern "C" fn urrezkalu_read_sheet(text: &[u8], values: &mut [u64]) -> u64
     ensures { λ r. ⌜ (r ≡ sheetNumber (readSheet (now (text .entry))) (length (now (values .entry)))) × (now (values .exit) ≡ sheetGiven (readSheet (now (text .entry))) (now (values .entry))) ⌝ }
 {
-    match sheet_reader::read_sheet(text) {
-        SheetReading::Malformed(line) => {
-            return joined(MALFORMED, line);
-        }
-        SheetReading::Invalid => {
-            return joined(INVALID_CREDENTIALS, 0);
-        }
-        SheetReading::Sheet(held) => {
-            if values.len() < SHEET_VALUES {
-                return joined(NO_ROOM, 0);
-            }
-            put_credentials(values, held);
-            return joined(DONE, SHEET_VALUES as u32);
-        }
+    let answer = sheet_reader::read_sheet(text);
+    let SheetReading::Sheet(held) = answer else {
+        return joined(
+            sheet_reader::sheet_code(answer),
+            sheet_reader::sheet_line(answer),
+        );
+    };
+    if values.len() < SHEET_VALUES {
+        return joined(NO_ROOM, 0);
     }
+    put_credentials(values, held);
+    joined(DONE, SHEET_VALUES as u32)
 }
 
 // Writes the sheet of the credentials whose values these are at the front of the buffer: 72 where there are not eleven of them, the last is neither 0
@@ -86,8 +81,9 @@ pub extern "C" fn urrezkalu_write_sheet(values: &[u64], sheet: &mut [u8]) -> u64
 pub extern "C" fn urrezkalu_read_attribute(attribute: &[u8], values: &mut [u64]) -> u64
     ensures { λ r. ⌜ (r ≡ fileNumber (reading (now (attribute .entry))) (length (now (values .entry)))) × (now (values .exit) ≡ fileGiven (reading (now (attribute .entry))) (now (values .entry))) ⌝ }
 {
-    let Reading::File(file) = attribute::read(attribute) else {
-        return joined(UNREADABLE_ATTRIBUTE, 0);
+    let answer = attribute::read(attribute);
+    let Reading::File(file) = answer else {
+        return joined(attribute::reading_code(answer), 0);
     };
     if values.len() < FILE_VALUES {
         return joined(NO_ROOM, 0);
