@@ -37,7 +37,7 @@
  * what is still to be read, and neither the number nor any byte of either means anything.
  *
  * Nothing is allocated, and nothing is kept from one call to the next: any number of threads may call at once, each with a buffer of its own,
- * and so may a signal handler. The time is in proportion to the text. */
+ * and so may a signal handler. The time is in proportion to the text. urrezkalu_run_plan needs some 3.5 KiB of stack, the others less than 1 KiB. */
 #ifndef URREZKALU_H
 #define URREZKALU_H
 
@@ -64,7 +64,8 @@ enum {
     URREZKALU_LONGEST_PLAN = 30683,
     /* The most bytes that a report has: a buffer of this length is never too short. */
     URREZKALU_LONGEST_REPORT = 8155,
-    /* The most bytes that a sheet has, and here too one byte more decides all: so much to read of a text, and room enough for every sheet. */
+    /* The most bytes that a sheet has: a buffer of this length is never too short. Of a longer text, here too, the first
+     * URREZKALU_LONGEST_SHEET + 1 bytes decide the line. */
     URREZKALU_LONGEST_SHEET = 219,
     /* The bytes of every attribute that is written. */
     URREZKALU_ATTRIBUTE_LENGTH = 20
@@ -98,7 +99,7 @@ enum {
 /* Runs the plan and writes its report at the front of the buffer `report`, which has room for `report_length` bytes.
  *
  * Refusals, in this order: URREZKALU_MALFORMED; URREZKALU_INVALID, for the credentials that the plan starts with; URREZKALU_NO_ROOM. A step
- * that is refused does not refuse the plan: its code is in the report. A run needs some 3 KiB of stack. */
+ * that is refused does not refuse the plan: its code is in the report. */
 uint64_t urrezkalu_run_plan(const uint8_t *plan, size_t plan_length, uint8_t *report, size_t report_length);
 
 /* Reads a sheet into the first URREZKALU_SHEET_VALUES of the `values_count` values, and URREZKALU_SHEET_VALUES is the length that comes back.

@@ -7,7 +7,8 @@
 #include "lent.h"
 
 enum {
-    MOST = 512, /* No edited sheet is longer. */
+    MOST = 512,     /* No edited sheet is longer. */
+    LONG = 1 << 20, /* The bytes of a long text. */
     SETS = 5
 };
 
@@ -249,6 +250,24 @@ static void try_bits(void)
     }
 }
 
+/* What stands after one byte more than the longest sheet decides nothing, however much it is. */
+static void try_long_texts(void)
+{
+    static char text[LONG];
+    memset(text, '\n', sizeof text);
+    expect_refused_text("newlines", text, sizeof text, refused(URREZKALU_MALFORMED, 1));
+    for (size_t i = 0; i < sizeof sheets / sizeof sheets[0]; i++) {
+        memset(text, '\n', sizeof text);
+        memcpy(text, sheets[i].text, sheets[i].length);
+        expect_refused_text("a sheet and newlines", text, sizeof text, refused(URREZKALU_MALFORMED, 12));
+        expect_refused_text("a sheet and newlines, cut", text, URREZKALU_LONGEST_SHEET + 1, refused(URREZKALU_MALFORMED, 12));
+        /* The digit of the last line. */
+        text[sheets[i].length - 2] = '2';
+        expect_refused_text("a broken sheet and newlines", text, sizeof text, refused(URREZKALU_MALFORMED, 11));
+        expect_refused_text("a broken sheet and newlines, cut", text, URREZKALU_LONGEST_SHEET + 1, refused(URREZKALU_MALFORMED, 11));
+    }
+}
+
 int main(void)
 {
     for (size_t i = 0; i < sizeof sheets / sizeof sheets[0]; i++) {
@@ -257,6 +276,7 @@ int main(void)
     try_edits();
     try_counts();
     try_bits();
+    try_long_texts();
     printf("sheets: %zu of %zu calls across the C interface as expected\n", tried - faults, tried);
     return faults == 0 ? 0 : 1;
 }
