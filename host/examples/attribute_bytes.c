@@ -58,7 +58,7 @@ static enum status write_attribute(const char *permitted, const char *inheritabl
     uint64_t number = urrezkalu_write_attribute(strtoull(permitted, NULL, 16), strtoull(inheritable, NULL, 16), bit[0] == '1', attribute,
                                                 sizeof attribute);
     if (urrezkalu_code(number) != URREZKALU_DONE) {
-        /* URREZKALU_OUT_OF_RANGE: there is room, and the bit is one. */
+        /* URREZKALU_OUT_OF_RANGE: there is room, and the bit is 0 or 1. */
         return complain(REFUSED, "a set has a bit above 40");
     }
     char digits[2 * URREZKALU_ATTRIBUTE_LENGTH + 1];

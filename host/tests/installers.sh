@@ -1,5 +1,5 @@
 #!/bin/sh
-# Runs the two examples of an installer, in C and in Rust, on the same arguments. Standard output, standard error and status of both have to be
+# Runs the two examples that check plans, in C and in Rust, on the same arguments. Standard output, standard error and status of both have to be
 # what is expected here, to the byte, and so the same.
 #
 #     installers.sh C-PROGRAM RUST-PROGRAM EXAMPLES

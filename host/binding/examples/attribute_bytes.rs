@@ -52,7 +52,7 @@ fn bit(text: &str) -> Result<bool, Refusal> {
 }
 
 fn bytes(digits: &str) -> Result<Vec<u8>, Refusal> {
-    if !is_hex(digits) || digits.len() % 2 != 0 {
+    if !is_hex(digits) || !digits.len().is_multiple_of(2) {
         return Err(failed("an attribute is pairs of hex digits, 0 to 9 and a to f"));
     }
     let pairs = (0..digits.len()).step_by(2).map(|at| &digits[at..at + 2]);
