@@ -4,6 +4,7 @@
  *     attributes
  *
  * What is expected was typed in from the paper. */
+#define TEST "attributes"
 #include "lent.h"
 
 enum { LONGEST = 32 /* Attributes of up to so many bytes are tried. */ };
@@ -240,6 +241,6 @@ int main(void)
     try_none_attached();
     try_lengths();
     try_bits();
-    printf("attributes: %zu of %zu calls across the C interface as expected\n", tried - faults, tried);
+    printf(TEST ": %zu of %zu calls across the C interface as expected\n", tried - faults, tried);
     return faults == 0 ? 0 : 1;
 }

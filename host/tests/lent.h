@@ -1,4 +1,5 @@
-/* What sheets.c and attributes.c share: memory that is lent to the library, what it holds before and after, and what is counted. */
+/* What sheets.c and attributes.c share: memory that is lent to the library, what it holds before and after, and what is counted. Whoever
+ * includes it has defined TEST, the name of the test in its messages. */
 #ifndef LENT_H
 #define LENT_H
 
@@ -59,7 +60,7 @@ static inline void look(const char *what, size_t room, uint64_t found, uint64_t 
 {
     tried++;
     if (found != expected || !is_written || !is_unread) {
-        printf("%s, room for %zu: %#llx came back, %#llx was expected%s%s\n", what, room, (unsigned long long)found, (unsigned long long)expected,
+        printf(TEST ": %s, room for %zu: %#llx came back, %#llx was expected%s%s\n", what, room, (unsigned long long)found, (unsigned long long)expected,
                is_written ? "" : "; what was lent to be written is wrong", is_unread ? "" : "; what was lent to be read has changed");
         faults++;
     }

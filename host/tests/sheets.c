@@ -4,6 +4,7 @@
  *     sheets
  *
  * What is expected was typed in from the paper. */
+#define TEST "sheets"
 #include "lent.h"
 
 enum {
@@ -170,7 +171,7 @@ static size_t edited(char *into, const char *part, const char *other)
 {
     const char *found = strstr(case_2->text, part);
     if (found == NULL) {
-        printf("sheets: %s is not in the sheet\n", part);
+        printf(TEST ": %s is not in the sheet\n", part);
         exit(2);
     }
     int front = (int)(found - case_2->text);
@@ -180,7 +181,7 @@ static size_t edited(char *into, const char *part, const char *other)
 static void try_sheet(const struct sheet *sheet)
 {
     if (strlen(sheet->text) != sheet->length) {
-        printf("sheets: a sheet of %zu bytes has %zu\n", sheet->length, strlen(sheet->text));
+        printf(TEST ": a sheet of %zu bytes has %zu\n", sheet->length, strlen(sheet->text));
         exit(2);
     }
     for (size_t count = 0; count <= 16; count++) {
@@ -277,6 +278,6 @@ int main(void)
     try_counts();
     try_bits();
     try_long_texts();
-    printf("sheets: %zu of %zu calls across the C interface as expected\n", tried - faults, tried);
+    printf(TEST ": %zu of %zu calls across the C interface as expected\n", tried - faults, tried);
     return faults == 0 ? 0 : 1;
 }
