@@ -1,17 +1,17 @@
 /* The C interface under the address and undefined-behaviour sanitizers, and between inaccessible pages.
  *
- *     sanitize PLAN.. [-]      runs the plans, and with `-` a stream of them on standard input; and attributes of its own
+ *     sanitize PLAN.. [-]      runs the plans, and with `-` a stream of them on standard input; and attributes that it makes
  *     sanitize --self-test     shows that the guards and the checks catch what they are there for
  *
  * In the stream each plan is its length, 32 bits with the least significant byte first, and then its bytes.
  *
- * A text is run as a plan, and read as a sheet, whole and in its first eleven lines; what is read is written again. Attributes are made here, of
- * every length from none to past the longest. Each function is called with no room, with one place too few, with exactly enough and with more; to
- * read values or to write an attribute, with every number of places from none to past enough. All that in three places: with both buffers at
- * the very end, and then at the very start, of mappings that have inaccessible pages on both sides, what is read in pages that cannot be written;
- * and then in heap blocks of just their lengths. The library itself is not instrumented, so that the sanitizers see only what it hands to the C
- * library; the pages are what ends this program for certain at the library's first byte out of bounds. What is in a buffer and is not written must
- * keep its pattern, all runs on one input must agree, and so must the functions with each other. */
+ * A text is run as a plan, and read as a sheet, whole and in its first eleven lines; what is read is written again. Attributes are of every
+ * length from none to past the longest. Each function is called with no room, with one place too few, with exactly enough and with more; to read
+ * values or to write an attribute, with every number of places from none to past enough. All that in three places: with both buffers at the very
+ * end, and then at the very start, of mappings that have inaccessible pages on both sides, what is read in pages that cannot be written; and then
+ * in heap blocks of just their lengths. The library itself is not instrumented, so that the sanitizers see only what it hands to the C library; the
+ * pages are what ends this program for certain at the library's first byte out of bounds. What is in a buffer and is not written must keep its
+ * pattern, all runs on one input must agree, and so must the functions with each other. */
 #include "sanitize.h"
 
 #include <sanitizer/common_interface_defs.h>
@@ -90,6 +90,20 @@ static void try_stream(struct bench *bench, FILE *stream)
     }
 }
 
+/* Whether each function was done with an input and refused another: else the plans show little. */
+static bool has_seen_enough(const struct bench *bench)
+{
+    bool enough = true;
+    for (enum function function = 0; function < FUNCTIONS; function++) {
+        if (bench->done[function] == 0 || bench->refused[function] == 0) {
+            fprintf(stderr, "sanitize: %s was done %zu times and refused %zu times: other plans are needed\n", name_of(function),
+                    bench->done[function], bench->refused[function]);
+            enough = false;
+        }
+    }
+    return enough;
+}
+
 int main(int argc, char **argv)
 {
     if (argc == 2 && strcmp(argv[1], "--self-test") == 0) {
@@ -109,6 +123,9 @@ int main(int argc, char **argv)
     clear_away(&bench);
     if (bench.texts == 0) {
         fprintf(stderr, "sanitize: no plans: sanitize PLAN.. [-], or sanitize --self-test\n");
+        return TROUBLE;
+    }
+    if (!has_seen_enough(&bench)) {
         return TROUBLE;
     }
     printf("sanitize: %zu texts, %zu attributes, %zu runs, %zu faults\n", bench.texts, bench.attributes, bench.runs, bench.faults);

@@ -69,6 +69,8 @@ struct bench {
     uint8_t *patterns[PLACES];
     size_t texts;
     size_t attributes;
+    size_t done[FUNCTIONS]; /* The inputs with which each function was done, and those that it refused. */
+    size_t refused[FUNCTIONS];
     size_t runs;
     size_t faults;
 };

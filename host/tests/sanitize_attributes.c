@@ -4,10 +4,11 @@
 #include <string.h>
 
 enum {
-    LONGEST = 32,    /* Attributes of 0 to so many bytes are tried. */
-    VARIANTS = 64,   /* How many of each length. */
-    OPERANDS = 512,  /* How many sets and bits are written besides. */
-    VERSION_2 = 20,  /* The bytes of the version that is written. */
+    LONGEST = 32,   /* Attributes of 0 to so many bytes are tried. */
+    VARIANTS = 64,  /* How many of each length. */
+    OPERANDS = 512, /* How many sets and bits are written besides. */
+    FIRST_WORD = 4, /* The bytes of an attribute's first word, and of all of version 2. */
+    VERSION_2 = 20,
     CAPABILITIES = 41
 };
 
@@ -20,7 +21,7 @@ static uint64_t next(uint64_t *state)
     return *state;
 }
 
-/* Writes sets and bit: as in range exactly if no capability is above 40 and the bit is one, and to be read as what was written. */
+/* Writes sets and bit: done exactly if no capability is above 40 and the bit is 0 or 1, and then to be read as what was written. */
 static void try_operands(struct bench *bench, const uint64_t *operands, struct trial *writing)
 {
     lay_down(bench, (const uint8_t *)operands, 3 * sizeof *operands);
@@ -28,7 +29,7 @@ static void try_operands(struct bench *bench, const uint64_t *operands, struct t
         return;
     }
     bool in_range = (operands[0] | operands[1]) >> CAPABILITIES == 0 && operands[2] <= 1;
-    expect(bench, (urrezkalu_code(writing->number) == URREZKALU_DONE) == in_range, "these sets and this bit are not told apart by their range");
+    expect(bench, (urrezkalu_code(writing->number) == URREZKALU_DONE) == in_range, "what is in range is refused, or what is not is written");
     if (in_range) {
         const uint64_t expected[URREZKALU_FILE_VALUES] = {1, operands[0], operands[1], operands[2]};
         uint64_t again[URREZKALU_FILE_VALUES];
@@ -63,22 +64,24 @@ void try_attribute(struct bench *bench, const uint8_t *attribute, size_t attribu
     }
 }
 
-/* Bytes of that length, the more like an attribute the more bits `variant` has. */
+/* Bytes of that length, of every four variants each more like an attribute than the one before. */
 static void make_attribute(uint8_t *bytes, size_t length, unsigned variant, uint64_t *state)
 {
+    unsigned likeness = length < FIRST_WORD ? 0 : variant % 4;
     for (size_t i = 0; i < length; i++) {
         bytes[i] = (uint8_t)next(state);
     }
-    if (length >= 4 && (variant & 1) != 0) {
+    if (likeness >= 1) {
         bytes[0] &= 1;
         bytes[1] = 0;
         bytes[2] = 0;
     }
-    if (length >= 4 && (variant & 2) != 0) {
-        bytes[3] = (variant & 4) != 0 ? 1 : 2;
+    if (likeness >= 2) {
+        /* The revision of that length, and now and then the other. */
+        bytes[3] = (length < VERSION_2) == (variant % 16 < 12) ? 1 : 2;
     }
-    if (length >= VERSION_2 && (variant & 8) != 0) {
-        const uint8_t highest[] = {0xff, 1, 0, 0};
+    if (likeness >= 3 && length >= VERSION_2) {
+        static const uint8_t highest[] = {0xff, 1, 0, 0};
         for (size_t i = 0; i < sizeof highest; i++) {
             bytes[12 + i] &= highest[i];
             bytes[16 + i] &= highest[i];

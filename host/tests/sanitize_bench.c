@@ -268,11 +268,14 @@ static void first_run(struct bench *bench, struct trial *trial)
     uint32_t code = urrezkalu_code(trial->number);
     uint64_t rest = trial->number & UINT32_MAX;
     if (code == URREZKALU_DONE) {
+        bench->done[trial->function]++;
         expect_of_run(bench, rest >= function->least && rest <= function->most, "it writes nothing of this length");
         expect_of_run(bench, bench->input_length <= function->longest_input, "it is done with nothing of this length");
     } else if (code == URREZKALU_MALFORMED) {
+        bench->refused[trial->function]++;
         expect_of_run(bench, rest >= 1 && rest <= function->last_line, "no fault has this line");
     } else {
+        bench->refused[trial->function]++;
         expect_of_run(bench, code == function->refusal && rest == 0, "there is no such number where there is room");
     }
 }

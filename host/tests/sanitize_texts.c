@@ -38,15 +38,17 @@ static void try_values_read(struct bench *bench, const uint64_t *values, const u
     }
 }
 
-/* Writes some of the values and more, 0 to 13 of them, one of which is another. What is then written has to be read as those values. */
-static void try_values_changed(struct bench *bench, const uint64_t *values, size_t position)
+/* Writes some of the values and more, 0 to 13 of them, one of which is another: with each text in another way. What is then written has to be read
+ * as those values. */
+static void try_values_changed(struct bench *bench, const uint64_t *values)
 {
     static const uint64_t others[] = {0, 2, 0x100, 4294967294, 4294967295, 4294967296, 0x1ffffffffff, 0x20000000000, UINT64_MAX};
     uint64_t changed[MOST_VALUES] = {0};
+    size_t way = bench->texts;
     memcpy(changed, values, URREZKALU_SHEET_VALUES * sizeof *values);
-    changed[position % MOST_VALUES] = others[position / MOST_VALUES % (sizeof others / sizeof others[0])];
+    changed[way % MOST_VALUES] = others[way / MOST_VALUES % (sizeof others / sizeof others[0])];
     /* Every other time they are eleven, so that it is the other value which decides. */
-    size_t count = position % 2 == 0 ? URREZKALU_SHEET_VALUES : position / 2 % (MOST_VALUES + 1);
+    size_t count = way % 2 == 0 ? URREZKALU_SHEET_VALUES : way / 2 % (MOST_VALUES + 1);
     struct trial writing;
     lay_down(bench, (const uint8_t *)changed, count * sizeof *changed);
     if (!try_function(bench, &writing, WRITE_SHEET) || urrezkalu_code(writing.number) != URREZKALU_DONE) {
@@ -60,7 +62,7 @@ static void try_values_changed(struct bench *bench, const uint64_t *values, size
 }
 
 /* Reads the text's first eleven lines. */
-static void try_sheet(struct bench *bench, const uint8_t *text, size_t sheet_length, uint64_t plan_number, size_t position)
+static void try_sheet(struct bench *bench, const uint8_t *text, size_t sheet_length, uint64_t plan_number)
 {
     struct trial reading;
     lay_down(bench, text, sheet_length);
@@ -75,7 +77,7 @@ static void try_sheet(struct bench *bench, const uint8_t *text, size_t sheet_len
         uint64_t values[URREZKALU_SHEET_VALUES];
         memcpy(values, reading.output, sizeof values);
         try_values_read(bench, values, text, sheet_length);
-        try_values_changed(bench, values, position);
+        try_values_changed(bench, values);
     }
 }
 
@@ -92,6 +94,6 @@ void try_text(struct bench *bench, const char *name, size_t position, const uint
     size_t sheet_length = length_of_sheet(text, text_length);
     expect(bench, reading.number == sheet_number(running.number, text_length > sheet_length), "the whole text is not read as the runner reads it");
     if (sheet_length != 0) {
-        try_sheet(bench, text, sheet_length, running.number, position);
+        try_sheet(bench, text, sheet_length, running.number);
     }
 }
