@@ -7,7 +7,8 @@ enum {
     LONGEST = 32,   /* Attributes of 0 to so many bytes are tried. */
     VARIANTS = 64,  /* How many of each length. */
     OPERANDS = 512, /* How many sets and bits are written besides. */
-    FIRST_WORD = 4, /* The bytes of an attribute's first word, and of all of version 2. */
+    FIRST_WORD = 4, /* The bytes of an attribute's first word, and of the two versions. */
+    VERSION_1 = 12,
     VERSION_2 = 20,
     CAPABILITIES = 41
 };
@@ -61,6 +62,9 @@ void try_attribute(struct bench *bench, const uint8_t *attribute, size_t attribu
     try_operands(bench, &values[URREZKALU_FILE_PERMITTED], &writing);
     if (attribute_length == VERSION_2) {
         expect(bench, memcmp(writing.output, attribute, VERSION_2) == 0, "the attribute is not the one that was read");
+    } else {
+        /* Version 1 has the low words where version 2 has them. */
+        expect(bench, memcmp(writing.output + FIRST_WORD, attribute + FIRST_WORD, VERSION_1 - FIRST_WORD) == 0, "the sets are not those that were read");
     }
 }
 
