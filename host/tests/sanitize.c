@@ -125,9 +125,9 @@ int main(int argc, char **argv)
         fprintf(stderr, "sanitize: no plans: sanitize PLAN.. [-], or sanitize --self-test\n");
         return TROUBLE;
     }
-    if (!has_seen_enough(&bench)) {
-        return TROUBLE;
-    }
     printf("sanitize: %zu texts, %zu attributes, %zu runs, %zu faults\n", bench.texts, bench.attributes, bench.runs, bench.faults);
-    return bench.faults == 0 ? 0 : FAULTS;
+    if (bench.faults != 0) {
+        return FAULTS;
+    }
+    return has_seen_enough(&bench) ? 0 : TROUBLE;
 }
