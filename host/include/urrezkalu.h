@@ -1,4 +1,4 @@
-/* The proved plan runner, for C11 and C++.
+/* The proved library, for C11 and C++11: plans, credential sheets and file attributes.
  *
  * A plan is a text: the credentials that a thread starts with, then up to 256 calls. urrezkalu_run_plan writes the report: what each call
  * answers and what the thread holds after the last, or it says why the plan is refused. Every text gets an answer.
@@ -9,7 +9,35 @@
  *         fwrite(report, 1, urrezkalu_length(number), stdout);
  *     }
  *
- * Link with libcapi.a. It needs no other library; the one symbol that it leaves open is memset, which every C library has. */
+ * A sheet is the text of credentials alone, as a plan begins and a report ends with one: urrezkalu_read_sheet gives its values as numbers,
+ * urrezkalu_write_sheet makes a sheet of them. An attribute is the bytes of a file's security.capability: urrezkalu_read_attribute gives the
+ * file's sets and its effective bit, urrezkalu_write_attribute the bytes that an installer sets on a file.
+ *
+ *     uint8_t attribute[URREZKALU_ATTRIBUTE_LENGTH];
+ *     uint64_t number = urrezkalu_write_attribute(permitted, inheritable, 1, attribute, sizeof attribute);
+ *     if (urrezkalu_code(number) == URREZKALU_DONE) {
+ *         setxattr(path, "security.capability", attribute, urrezkalu_length(number), 0);
+ *     }
+ *
+ * Link with libcapi.a. It needs no other library; the one symbol that it leaves open is memset, which every C library has.
+ *
+ * What holds of all five functions:
+ *
+ * One number comes back: the code times 4294967296, plus the line of a fault, or plus how much was written. urrezkalu_code, urrezkalu_line and
+ * urrezkalu_length take it apart. What would be refused for several reasons is refused for the first, in the order that the function names.
+ *
+ * What is written stands at the front of the buffer, a text with no NUL after it, and what the buffer holds past that is as it was. Where a
+ * function refuses, for whatever reason, all of the buffer is as it was. What is handed over to be read is only read. It may have any bytes,
+ * NUL too, and needs none after it.
+ *
+ * A pointer must point to as many bytes or values that can be read, or written, as the length or count after it says. A pointer whose length
+ * or count is 0 is never followed, so that NULL with 0 is fine: an empty text, no attribute, no values, or a buffer with no room.
+ *
+ * What is read and what is written must not overlap. Nothing in C stops a caller, and nothing here looks: the buffer may then be written over
+ * what is still to be read, and neither the number nor any byte of either means anything.
+ *
+ * Nothing is allocated, and nothing is kept from one call to the next: any number of threads may call at once, each with a buffer of its own,
+ * and so may a signal handler. The time is in proportion to the text. urrezkalu_run_plan needs some 3.5 KiB of stack, the others less than 1 KiB. */
 #ifndef URREZKALU_H
 #define URREZKALU_H
 
@@ -20,12 +48,14 @@
 extern "C" {
 #endif
 
-/* What a plan comes to. A plan that would be refused for several of these is refused with the first, in the order MALFORMED, INVALID, NO_ROOM. */
+/* The codes. Each function names those that it has. */
 enum {
-    URREZKALU_DONE = 0,       /* The plan is run. A step that is refused does not refuse the plan: its code is in the report. */
-    URREZKALU_NO_ROOM = 28,   /* The report is longer than the buffer. */
-    URREZKALU_MALFORMED = 70, /* The text is no plan; urrezkalu_line says where. */
-    URREZKALU_INVALID = 72    /* The credentials that the plan starts with are not valid. */
+    URREZKALU_DONE = 0,          /* Done. */
+    URREZKALU_OUT_OF_RANGE = 22, /* A file's set has a bit above 40, or its effective bit is neither 0 nor 1. */
+    URREZKALU_NO_ROOM = 28,      /* What is to be written is longer than the buffer. */
+    URREZKALU_UNREADABLE = 60,   /* The bytes are no attribute. */
+    URREZKALU_MALFORMED = 70,    /* The text is no plan, or no sheet; urrezkalu_line says where. */
+    URREZKALU_INVALID = 72       /* The credentials are not valid. */
 };
 
 enum {
@@ -33,39 +63,86 @@ enum {
      * nobody needs to read or pass more than those. */
     URREZKALU_LONGEST_PLAN = 30683,
     /* The most bytes that a report has: a buffer of this length is never too short. */
-    URREZKALU_LONGEST_REPORT = 8155
+    URREZKALU_LONGEST_REPORT = 8155,
+    /* The most bytes that a sheet has: a buffer of this length is never too short. Of a longer text, here too, the first
+     * URREZKALU_LONGEST_SHEET + 1 bytes decide the line. */
+    URREZKALU_LONGEST_SHEET = 219,
+    /* The bytes of every attribute that is written. */
+    URREZKALU_ATTRIBUTE_LENGTH = 20
 };
 
-/* Runs the plan and writes its report at the front of the buffer `report`, which has room for `report_length` bytes. The functions below
- * take the number that comes back apart: it is the code times 4294967296, plus the line of a fault or the report's length.
+/* The places of a sheet's values, in the order of its lines. In a set, bit n is capability n. */
+enum {
+    URREZKALU_RUID = 0,         /* The user IDs: real, */
+    URREZKALU_EUID = 1,         /* effective, */
+    URREZKALU_SUID = 2,         /* saved, */
+    URREZKALU_FSUID = 3,        /* filesystem. */
+    URREZKALU_PERMITTED = 4,    /* The five capability sets. */
+    URREZKALU_INHERITABLE = 5,
+    URREZKALU_EFFECTIVE = 6,
+    URREZKALU_BOUNDING = 7,
+    URREZKALU_AMBIENT = 8,
+    URREZKALU_SECUREBITS = 9,
+    URREZKALU_NNP = 10,         /* No-new-privs, 0 or 1. */
+    URREZKALU_SHEET_VALUES = 11 /* How many they are. */
+};
+
+/* The places of a file's values. */
+enum {
+    URREZKALU_ATTACHED = 0,         /* 1 if the file has an attribute, else 0, and then the others are 0 too. */
+    URREZKALU_FILE_PERMITTED = 1,   /* Its two capability sets. */
+    URREZKALU_FILE_INHERITABLE = 2,
+    URREZKALU_FILE_EFFECTIVE = 3,   /* Its effective bit, 0 or 1. */
+    URREZKALU_FILE_VALUES = 4       /* How many they are. */
+};
+
+/* Runs the plan and writes its report at the front of the buffer `report`, which has room for `report_length` bytes.
  *
- * Where the plan is run, the buffer has the report at its front, with no NUL after it, and the bytes past the report are as they were.
- * Where the plan is refused, for whatever reason, every byte of the buffer is as it was. The plan is only read. It may have any bytes, NUL
- * too, and needs none after it.
- *
- * `plan` must point to `plan_length` bytes that can be read and `report` to `report_length` bytes that can be written. A pointer whose
- * length is 0 is never followed, so that NULL with length 0 is fine: an empty text, or a buffer with no room.
- *
- * The two buffers must not overlap. Nothing in C stops a caller, and nothing here looks: the report may then be written over text that
- * is still to be read, and neither the number nor any byte of either buffer means anything.
- *
- * Nothing is allocated, and nothing is kept from one run to the next: any number of threads may run plans at once, each with a buffer of
- * its own, and so may a signal handler. A run needs some 3 KiB of stack and takes time in proportion to the text. */
+ * Refusals, in this order: URREZKALU_MALFORMED; URREZKALU_INVALID, for the credentials that the plan starts with; URREZKALU_NO_ROOM. A step
+ * that is refused does not refuse the plan: its code is in the report. */
 uint64_t urrezkalu_run_plan(const uint8_t *plan, size_t plan_length, uint8_t *report, size_t report_length);
 
-/* One of the four codes above. */
+/* Reads a sheet into the first URREZKALU_SHEET_VALUES of the `values_count` values, and URREZKALU_SHEET_VALUES is the length that comes back.
+ *
+ * Refusals, in this order: URREZKALU_MALFORMED, text past the sheet's eleven lines being a fault at line 12; URREZKALU_INVALID;
+ * URREZKALU_NO_ROOM, for fewer than URREZKALU_SHEET_VALUES values. */
+uint64_t urrezkalu_read_sheet(const uint8_t *text, size_t text_length, uint64_t *values, size_t values_count);
+
+/* Writes the sheet of the values at the front of the buffer `sheet`, which has room for `sheet_length` bytes.
+ *
+ * Refusals, in this order: URREZKALU_INVALID; URREZKALU_NO_ROOM. Invalid are values that are not exactly URREZKALU_SHEET_VALUES; a user ID above
+ * 4294967294; a set with a bit above 40; an effective set that is not within the permitted one; an ambient set that is not within both the
+ * permitted and the inheritable one; securebits above 255; a no-new-privs that is neither 0 nor 1. */
+uint64_t urrezkalu_write_sheet(const uint64_t *values, size_t values_count, uint8_t *sheet, size_t sheet_length);
+
+/* Reads an attribute of version 1 or 2 into the first URREZKALU_FILE_VALUES of the `values_count` values, and URREZKALU_FILE_VALUES is the
+ * length that comes back. No bytes are a file without an attribute, which is not refused.
+ *
+ * Refusals, in this order: URREZKALU_UNREADABLE, for any other bytes than those of an attribute; URREZKALU_NO_ROOM, for fewer than
+ * URREZKALU_FILE_VALUES values. */
+uint64_t urrezkalu_read_attribute(const uint8_t *attribute, size_t attribute_length, uint64_t *values, size_t values_count);
+
+/* Writes the attribute of version 2 that has these sets and this effective bit, 0 or 1, into the first URREZKALU_ATTRIBUTE_LENGTH bytes of the
+ * buffer `attribute`, which has room for `attribute_length` bytes.
+ *
+ * Refusals, in this order: URREZKALU_OUT_OF_RANGE; URREZKALU_NO_ROOM. */
+uint64_t urrezkalu_write_attribute(uint64_t permitted, uint64_t inheritable, uint64_t effective, uint8_t *attribute, size_t attribute_length);
+
+/* One of the codes above. */
 static inline uint32_t urrezkalu_code(uint64_t number)
 {
     return (uint32_t)(number >> 32);
 }
 
-/* The first line at fault, which is one more than the complete correct lines before it: 1 to 1292 for URREZKALU_MALFORMED, 0 for the others. */
+/* The first line at fault, which is one more than the complete correct lines before it, for URREZKALU_MALFORMED: 1 to 1292 of a plan, 1 to 12
+ * of a sheet. 0 for the other codes. */
 static inline uint32_t urrezkalu_line(uint64_t number)
 {
     return urrezkalu_code(number) == URREZKALU_MALFORMED ? (uint32_t)(number & UINT32_MAX) : 0;
 }
 
-/* How many bytes the report has, at the front of the buffer: 0 where the plan is refused. */
+/* How much was written at the front of the buffer: the bytes of a report, a sheet or an attribute, or the count of values. 0 where the
+ * function refused. */
 static inline size_t urrezkalu_length(uint64_t number)
 {
     return urrezkalu_code(number) == URREZKALU_DONE ? (size_t)(number & UINT32_MAX) : 0;

@@ -1,4 +1,5 @@
-/* The C header: the number taken apart, with every code. To be built as C11 and as C++, and linked with the library in both.
+/* The C header: the number taken apart, with every code; lengths and places; every function by its name. To be built as C11 and as C++11, and
+ * linked with the library in both.
  *
  *     header */
 #include "../include/urrezkalu.h"
@@ -10,6 +11,23 @@
 static_assert(URREZKALU_LONGEST_PLAN == 30683, "the longest plan");
 static_assert(URREZKALU_LONGEST_REPORT == 8155, "the longest report");
 
+/* As the paper's forms of lines and of version 2 add up. */
+static_assert(URREZKALU_LONGEST_SHEET == 3 * 16 + 17 + 27 + 29 + 27 + 26 + 25 + 14 + 6, "the longest sheet, line by line");
+static_assert(URREZKALU_ATTRIBUTE_LENGTH == 5 * 4, "five words of an attribute");
+
+/* The places are in the order of a sheet's lines, and of "attached, permitted, inheritable, effective bit". */
+static_assert(URREZKALU_RUID == 0 && URREZKALU_EUID == 1 && URREZKALU_SUID == 2 && URREZKALU_FSUID == 3, "the places of the IDs");
+static_assert(URREZKALU_PERMITTED == 4 && URREZKALU_INHERITABLE == 5 && URREZKALU_EFFECTIVE == 6 && URREZKALU_BOUNDING == 7 && URREZKALU_AMBIENT == 8,
+              "the places of the sets");
+static_assert(URREZKALU_SECUREBITS == 9 && URREZKALU_NNP == 10 && URREZKALU_SHEET_VALUES == 11, "the last places of a sheet, and their count");
+static_assert(URREZKALU_ATTACHED == 0 && URREZKALU_FILE_PERMITTED == 1 && URREZKALU_FILE_INHERITABLE == 2 && URREZKALU_FILE_EFFECTIVE == 3,
+              "the places of a file");
+static_assert(URREZKALU_FILE_VALUES == 4, "their count");
+
+/* The paper's table "What comes back". */
+static_assert(URREZKALU_DONE == 0 && URREZKALU_OUT_OF_RANGE == 22 && URREZKALU_NO_ROOM == 28, "codes that are errors of the system too");
+static_assert(URREZKALU_UNREADABLE == 60 && URREZKALU_MALFORMED == 70 && URREZKALU_INVALID == 72, "codes of the house");
+
 struct number {
     uint64_t whole;
     uint32_t code;
@@ -17,19 +35,44 @@ struct number {
     size_t length;
 };
 
-/* As the paper has it: code times 4294967296 plus line or length. A number of none of the four codes has neither a line nor a length. */
+/* As the paper has it: code times 4294967296 plus line or length. A number of none of the six codes has neither a line nor a length. */
 static const struct number numbers[] = {
+    {4, URREZKALU_DONE, 0, URREZKALU_FILE_VALUES},
+    {11, URREZKALU_DONE, 0, URREZKALU_SHEET_VALUES},
+    {20, URREZKALU_DONE, 0, URREZKALU_ATTRIBUTE_LENGTH},
+    {219, URREZKALU_DONE, 0, URREZKALU_LONGEST_SHEET},
     {225, URREZKALU_DONE, 0, 225},
     {8155, URREZKALU_DONE, 0, URREZKALU_LONGEST_REPORT},
     {4294967295, URREZKALU_DONE, 0, 4294967295},
+    {94489280512, URREZKALU_OUT_OF_RANGE, 0, 0},
     {120259084288, URREZKALU_NO_ROOM, 0, 0},
+    {257698037760, URREZKALU_UNREADABLE, 0, 0},
     {300647710721, URREZKALU_MALFORMED, 1, 0},
+    {300647710732, URREZKALU_MALFORMED, 12, 0},
     {300647712012, URREZKALU_MALFORMED, 1292, 0},
     {304942678015, URREZKALU_MALFORMED, 4294967295, 0},
     {309237645312, URREZKALU_INVALID, 0, 0},
     {4294967301, 1, 0, 0},
     {18446744073709551615U, 4294967295, 0, 0},
 };
+
+static size_t tried;
+static size_t faults;
+
+static void expect(int right, uint64_t number, const char *what)
+{
+    tried++;
+    if (!right) {
+        printf("header: %llu %s\n", (unsigned long long)number, what);
+        faults++;
+    }
+}
+
+/* The number that came back from a function. */
+static void expect_answer(uint64_t found, uint64_t expected, const char *what)
+{
+    expect(found == expected, found, what);
+}
 
 static int is_as_expected(const struct number *expected)
 {
@@ -39,19 +82,15 @@ static int is_as_expected(const struct number *expected)
 
 int main(void)
 {
-    size_t all = sizeof numbers / sizeof numbers[0];
-    size_t faults = 0;
-    for (size_t i = 0; i < all; i++) {
-        if (!is_as_expected(&numbers[i])) {
-            printf("header: %llu is taken apart wrongly\n", (unsigned long long)numbers[i].whole);
-            faults++;
-        }
+    for (size_t i = 0; i < sizeof numbers / sizeof numbers[0]; i++) {
+        expect(is_as_expected(&numbers[i]), numbers[i].whole, "is taken apart wrongly");
     }
-    /* The function is found by its C name, from C++ too. */
-    if (urrezkalu_run_plan(NULL, 0, NULL, 0) != 300647710721) {
-        printf("header: an empty text is not malformed at line 1\n");
-        faults++;
-    }
-    printf("header: %zu of %zu numbers as expected\n", all + 1 - faults, all + 1);
+    /* The functions are found by their C names, from C++ too. */
+    expect_answer(urrezkalu_run_plan(NULL, 0, NULL, 0), 300647710721, "comes back for an empty text, which is malformed at line 1");
+    expect_answer(urrezkalu_read_sheet(NULL, 0, NULL, 0), 300647710721, "comes back for an empty sheet, which is malformed at line 1");
+    expect_answer(urrezkalu_write_sheet(NULL, 0, NULL, 0), 309237645312, "comes back for no values, which are invalid");
+    expect_answer(urrezkalu_read_attribute(NULL, 0, NULL, 0), 120259084288, "comes back for no attribute, to be read into no room");
+    expect_answer(urrezkalu_write_attribute(0, 0, 0, NULL, 0), 120259084288, "comes back for empty sets, to be written into no room");
+    printf("header: %zu of %zu numbers as expected\n", tried - faults, tried);
     return faults == 0 ? 0 : 1;
 }

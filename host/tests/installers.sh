@@ -1,77 +1,22 @@
 #!/bin/sh
-# Runs the two examples of an installer, in C and in Rust, on the same arguments. Standard output, standard error and status of both have to be
+# Runs the two examples that check plans, in C and in Rust, on the same arguments. Standard output, standard error and status of both have to be
 # what is expected here, to the byte, and so the same.
 #
 #     installers.sh C-PROGRAM RUST-PROGRAM EXAMPLES
 #
 # EXAMPLES is the directory of the example plans.
-set -eu
-export LC_ALL=C
-c_program=$(realpath -- "$1")
-rust_program=$(realpath -- "$2")
+. "$(dirname "$0")/both.sh"
 examples=$(realpath -- "$3")
-work=$(mktemp -d)
-trap 'rm -rf "$work"' EXIT
-mkdir "$work/plans" "$work/expected" "$work/c" "$work/rust"
-cd "$work/plans"
-run=0
-differ=0
+start installers "$1" "$2"
 
 fault='malformed plan: this line is the first that is missing, incomplete or wrong'
 invalid='the credentials at the start are not valid'
 
-# What the next run has to write: a line on standard error; the name and the report of an accepted plan on standard output.
-says() {
-    printf '%s\n' "$1" >>"$work/expected/stderr"
-    printf '%s\n' "$1" >>"$work/expected/together"
-}
+# The name and the report of an accepted plan.
 accepts() {
-    {
-        printf '%s: accepted\n' "$1"
-        cat -- "$2"
-    } >"$work/accepted"
-    cat "$work/accepted" >>"$work/expected/stdout"
-    cat "$work/accepted" >>"$work/expected/together"
+    prints "$1: accepted"
+    prints_file "$2"
 }
-nothing_expected() {
-    for stream in stdout stderr together; do
-        : >"$work/expected/$stream"
-    done
-}
-
-# One program's status and output, by itself and together: messages come between the reports where their plans do.
-record() {
-    into=$1
-    shift
-    status=0
-    "$@" >"$work/$into/stdout" 2>"$work/$into/stderr" || status=$?
-    echo "$status" >"$work/$into/status"
-    "$@" >"$work/$into/together" 2>&1 || true
-}
-
-# check WHAT STATUS ARGUMENT..: both programs with these arguments. What they have to write has been said before, and is forgotten after.
-check() {
-    what=$1
-    echo "$2" >"$work/expected/status"
-    shift 2
-    run=$((run + 1))
-    record c "$c_program" "$@"
-    record rust "$rust_program" "$@"
-    same=true
-    for part in status stdout stderr together; do
-        for one in c rust; do
-            cmp -- "$work/$one/$part" "$work/expected/$part" || same=false
-        done
-        cmp -- "$work/c/$part" "$work/rust/$part" || same=false
-    done
-    if ! $same; then
-        echo "installers: $what: not as expected"
-        differ=$((differ + 1))
-    fi
-    nothing_expected
-}
-
-nothing_expected
 
 # Every example by itself, and all of them at once. The report beside a refused plan is its code and its line.
 expect_example() {
@@ -211,28 +156,5 @@ check 'an odd name that is missing' 2 "$odd"
 says '--help: cannot be read: No such file or directory'
 check 'a name like an option' 2 --help
 
-# Standard output that cannot be written: file descriptor 3.
-unwritable() {
-    for one in "$c_program" "$rust_program"; do
-        run=$((run + 1))
-        status=0
-        "$one" good.plan >&3 2>message || status=$?
-        if test "$status" -ne 2 || test "$(cat message)" != "check_plans: cannot write to standard output: $1"; then
-            echo "installers: $one: output that cannot be written ($1) gives status $status and this message:"
-            cat message
-            differ=$((differ + 1))
-        fi
-    done
-}
-exec 3>/dev/full
-unwritable 'No space left on device'
-# A pipe whose only reader is gone.
-mkfifo pipe
-exec 4<>pipe
-exec 3>pipe
-exec 4<&-
-unwritable 'Broken pipe'
-exec 3>&-
-
-echo "installers: $((run - differ)) of $run as expected from both"
-test "$differ" -eq 0
+check_unwritable check_plans good.plan
+finish

@@ -1,8 +1,10 @@
-/* What sanitize.c, its pages and its self-test share. */
+/* What sanitize.c, its pages, its bench, its trials and its self-test share. */
 #ifndef SANITIZE_H
 #define SANITIZE_H
 
 #include "../include/urrezkalu.h"
+
+#include <stdbool.h>
 
 enum {
     FAULTS = 1,    /* The status after a run with a wrong number or a wrong byte. */
@@ -28,30 +30,86 @@ void unmap_guarded(struct guarded pages);
 /* Allows the pages what `protection` says, as mprotect does. */
 void allow(struct guarded pages, int protection);
 
-/* Where the two buffers of a run are. The pages come first: there a stray access has no way to spoil the heap unseen. */
+/* The functions of the header. */
+enum function { RUN_PLAN, READ_SHEET, WRITE_SHEET, READ_ATTRIBUTE, WRITE_ATTRIBUTE, FUNCTIONS };
+
+/* A call of any of them, with what it reads and what it may write as bytes. What urrezkalu_write_attribute has for an input are its operands. */
+struct call {
+    enum function function;
+    const uint8_t *input;
+    size_t input_length;
+    uint8_t *output;
+    size_t output_length;
+};
+
+/* What makes the calls: the library, or in the self-test one that does something wrong. */
+typedef uint64_t caller(const struct call *call);
+
+uint64_t call_library(const struct call *call);
+
+const char *name_of(enum function function);
+
+/* The bytes of one place in what the function writes: of a value, or of a byte. */
+size_t unit_of(enum function function);
+
+/* The code of its refusal that has no line and is not for want of room. */
+uint32_t refusal_of(enum function function);
+
+/* Where input and output of a run are. The pages come first: there a stray access has no way to spoil the heap unseen. */
 enum place { AT_THE_END, AT_THE_START, ON_THE_HEAP, PLACES };
 
-/* What is run: the library's function, or in the self-test one that does something wrong. */
-typedef uint64_t runner(const uint8_t *plan, size_t plan_length, uint8_t *report, size_t report_length);
-
-/* The pages for a plan and for a report, what stands where no report does, and what has been counted. */
+/* An input with pages of its own for each place but the heap, the pages for an output, what stands where nothing is written, and what has been
+ * counted. */
 struct bench {
-    runner *run;
-    struct guarded plan_pages;
-    struct guarded report_pages;
+    caller *call;
+    const uint8_t *input;
+    size_t input_length;
+    struct guarded input_pages[ON_THE_HEAP];
+    struct guarded output_pages;
     uint8_t *patterns[PLACES];
-    size_t plans;
+    size_t texts;
+    size_t attributes;
+    size_t done[FUNCTIONS]; /* The inputs with which each function was done, and those that it refused. */
+    size_t refused[FUNCTIONS];
     size_t runs;
     size_t faults;
 };
 
-void set_up(struct bench *bench, runner *run);
+void set_up(struct bench *bench, caller *call);
 void clear_away(struct bench *bench);
 
-/* Runs a text in all places with all rooms. `position` is its place in a stream, from 1, or 0 for a file. */
+/* What the next runs are of, for messages: the name of a file, or a place in a stream, from 1. */
+void say_where(const char *name, size_t position);
+
+/* For the message about a run that never comes back. */
+void name_the_last_run(void);
+
+/* Lays the input down for the next runs, in pages that cannot be written. */
+void lay_down(struct bench *bench, const uint8_t *input, size_t input_length);
+
+/* A function on the input that is laid down, and what it came to in its first run, which has room for all that it can write. */
+struct trial {
+    enum function function;
+    uint64_t number;
+    uint8_t output[URREZKALU_LONGEST_REPORT];
+};
+
+/* Runs the function in all places with all rooms: whether that was as it has to be. */
+bool try_function(struct bench *bench, struct trial *trial, enum function function);
+
+/* Counts a fault of the input and the function that were tried last, unless all is right. */
+void expect(struct bench *bench, bool right, const char *what);
+
+/* Runs a text: as a plan and as a sheet, its first eleven lines as a sheet, and the values of that. */
 void try_text(struct bench *bench, const char *name, size_t position, const uint8_t *text, size_t text_length);
 
-/* Shows that stray accesses and wrong bytes are caught: 0 if they all are. */
+/* Runs the bytes as an attribute, and what they are read as. */
+void try_attribute(struct bench *bench, const uint8_t *attribute, size_t attribute_length);
+
+/* Runs attributes of 0 to 32 bytes, and sets and bits in range and out of it. */
+void try_attributes(struct bench *bench);
+
+/* Shows that stray accesses and wrong answers are caught: 0 if they all are. */
 int self_test(void);
 
 #endif

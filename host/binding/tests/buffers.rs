@@ -1,14 +1,11 @@
 //! The number that comes back and every byte of the buffer, for buffers of every length about the report's.
 
+mod lent;
 mod plans;
 
+use lent::{in_front, pattern};
 use plans::{longest_plan, read, INVALID_START};
 use urrezkalu::{run_plan, Outcome, LONGEST_PLAN, LONGEST_REPORT};
-
-/// What the buffer has before a run: no two neighbours alike, and none of it text.
-fn pattern(length: usize) -> Vec<u8> {
-    (0..length).map(|i| 0x80 | (i % 127) as u8).collect()
-}
 
 /// Runs the plan with a buffer of `room` bytes: what it comes to, and the buffer afterwards.
 fn run(plan: &[u8], room: usize) -> (Outcome, Vec<u8>) {
@@ -30,11 +27,8 @@ fn room_exactly_right_one_short_and_every_other() {
         refused(&plan, room, Outcome::NoRoom);
     }
     for room in report.len()..report.len() + 64 {
-        let (outcome, buffer) = run(&plan, room);
-        assert_eq!(outcome, Outcome::Report { length: report.len() });
-        let (front, past) = buffer.split_at(report.len());
-        assert_eq!(front, report);
-        assert_eq!(past, &pattern(room)[report.len()..], "bytes past the report stay");
+        let outcome = Outcome::Report { length: report.len() };
+        assert_eq!(run(&plan, room), (outcome, in_front(&report, &pattern(room))), "with room for {room} bytes");
     }
 }
 

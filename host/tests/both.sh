@@ -1,0 +1,101 @@
+# For installers.sh and attribute_bytes.sh: an example in C and the same in Rust, run on the same arguments. Standard output, standard error and
+# status of both have to be what is expected, to the byte, and so the same.
+set -eu
+export LC_ALL=C
+run=0
+differ=0
+
+# start NAME C-PROGRAM RUST-PROGRAM: what to call this test, and what it runs; in an empty directory, from here on.
+start() {
+    name=$1
+    c_program=$(realpath -- "$2")
+    rust_program=$(realpath -- "$3")
+    work=$(mktemp -d)
+    trap 'rm -rf "$work"' EXIT
+    mkdir "$work/here" "$work/expected" "$work/c" "$work/rust"
+    cd "$work/here"
+    nothing_expected
+}
+
+# What the next run has to write: a line on standard error; a line, or a file's content, on standard output.
+says() {
+    printf '%s\n' "$1" >>"$work/expected/stderr"
+    printf '%s\n' "$1" >>"$work/expected/together"
+}
+prints() {
+    printf '%s\n' "$1" >>"$work/expected/stdout"
+    printf '%s\n' "$1" >>"$work/expected/together"
+}
+prints_file() {
+    cat -- "$1" >>"$work/expected/stdout"
+    cat -- "$1" >>"$work/expected/together"
+}
+nothing_expected() {
+    for stream in stdout stderr together; do
+        : >"$work/expected/$stream"
+    done
+}
+
+# One program's status and output, by itself and together: messages come between the lines of the output where they belong.
+record() {
+    into=$1
+    shift
+    status=0
+    "$@" >"$work/$into/stdout" 2>"$work/$into/stderr" || status=$?
+    echo "$status" >"$work/$into/status"
+    "$@" >"$work/$into/together" 2>&1 || true
+}
+
+# check WHAT STATUS ARGUMENT..: both programs with these arguments. What they have to write has been said before, and is forgotten after.
+check() {
+    what=$1
+    echo "$2" >"$work/expected/status"
+    shift 2
+    run=$((run + 1))
+    record c "$c_program" "$@"
+    record rust "$rust_program" "$@"
+    same=true
+    for one in c rust; do
+        diff -r -- "$work/expected" "$work/$one" || same=false
+    done
+    if ! $same; then
+        echo "$name: $what: not as expected"
+        differ=$((differ + 1))
+    fi
+    nothing_expected
+}
+
+# Both programs with standard output, file descriptor 3, that cannot be written for this reason.
+unwritable() {
+    reason=$1
+    shift
+    for one in "$c_program" "$rust_program"; do
+        run=$((run + 1))
+        status=0
+        "$one" "$@" >&3 2>message || status=$?
+        if test "$status" -ne 2 || test "$(cat message)" != "$example: cannot write to standard output: $reason"; then
+            echo "$name: $one: output that cannot be written ($reason) gives status $status and this message:"
+            cat message
+            differ=$((differ + 1))
+        fi
+    done
+}
+
+# check_unwritable EXAMPLE ARGUMENT..: output to a full device, and to a pipe whose only reader is gone. EXAMPLE is what the programs call themselves.
+check_unwritable() {
+    example=$1
+    shift
+    exec 3>/dev/full
+    unwritable 'No space left on device' "$@"
+    mkfifo pipe
+    exec 4<>pipe
+    exec 3>pipe
+    exec 4<&-
+    unwritable 'Broken pipe' "$@"
+    exec 3>&-
+}
+
+finish() {
+    echo "$name: $((run - differ)) of $run as expected from both"
+    test "$differ" -eq 0
+}

@@ -1,0 +1,298 @@
+/* The bench of sanitize.c: one function on one input, in all places with all rooms. */
+#include "sanitize.h"
+
+#include <stdio.h>
+#include <stdlib.h>
+#include <string.h>
+#include <sys/mman.h>
+
+enum {
+    MORE = 64,            /* How many bytes more room than enough is. */
+    SHORTEST_SHEET = 183, /* The bytes of a sheet of zeros. */
+    VALUE = sizeof(uint64_t)
+};
+
+/* What each function may answer, and with which rooms it is run. */
+static const struct nature {
+    const char *name;
+    size_t unit;          /* The bytes of one place in its output. */
+    size_t least;         /* The fewest and the most places that it writes. */
+    size_t most;
+    size_t longest_input; /* The most bytes of an input with which it is done. */
+    uint32_t last_line;   /* The greatest line of a fault, or 0 if it reads no text. */
+    uint32_t refusal;     /* The code of its other refusal, where there is room. */
+    size_t rooms;         /* Such an input is run with 0 to so many places; others, or all if that is 0, with room about what is written. */
+} functions[FUNCTIONS] = {
+    [RUN_PLAN] = {"urrezkalu_run_plan", 1, SHORTEST_SHEET, URREZKALU_LONGEST_REPORT, URREZKALU_LONGEST_PLAN, 1292, URREZKALU_INVALID, 0},
+    [READ_SHEET] = {"urrezkalu_read_sheet", VALUE, URREZKALU_SHEET_VALUES, URREZKALU_SHEET_VALUES, URREZKALU_LONGEST_SHEET, 12, URREZKALU_INVALID, 13},
+    [WRITE_SHEET] = {"urrezkalu_write_sheet", 1, SHORTEST_SHEET, URREZKALU_LONGEST_SHEET, URREZKALU_SHEET_VALUES * VALUE, 0, URREZKALU_INVALID, 0},
+    [READ_ATTRIBUTE] = {"urrezkalu_read_attribute", VALUE, URREZKALU_FILE_VALUES, URREZKALU_FILE_VALUES, URREZKALU_ATTRIBUTE_LENGTH, 0,
+                        URREZKALU_UNREADABLE, 13},
+    [WRITE_ATTRIBUTE] = {"urrezkalu_write_attribute", 1, URREZKALU_ATTRIBUTE_LENGTH, URREZKALU_ATTRIBUTE_LENGTH, 3 * VALUE, 0, URREZKALU_OUT_OF_RANGE,
+                         32},
+};
+
+/* The run that is under way. It stands here for the message about a run that never comes back, which can be given nothing. */
+static struct {
+    const char *name;
+    size_t position;
+    enum function function;
+    size_t input_length;
+    enum place place;
+    size_t room;
+    bool is_under_way;
+} now;
+
+const char *name_of(enum function function)
+{
+    return functions[function].name;
+}
+
+size_t unit_of(enum function function)
+{
+    return functions[function].unit;
+}
+
+uint32_t refusal_of(enum function function)
+{
+    return functions[function].refusal;
+}
+
+/* Pages and heap blocks are aligned for values, and so is a whole number of values at the end of pages. */
+uint64_t call_library(const struct call *call)
+{
+    const uint64_t *values = (const uint64_t *)call->input;
+    switch (call->function) {
+    case READ_SHEET:
+        return urrezkalu_read_sheet(call->input, call->input_length, (uint64_t *)call->output, call->output_length / VALUE);
+    case WRITE_SHEET:
+        return urrezkalu_write_sheet(values, call->input_length / VALUE, call->output, call->output_length);
+    case READ_ATTRIBUTE:
+        return urrezkalu_read_attribute(call->input, call->input_length, (uint64_t *)call->output, call->output_length / VALUE);
+    case WRITE_ATTRIBUTE:
+        return urrezkalu_write_attribute(values[0], values[1], values[2], call->output, call->output_length);
+    default:
+        return urrezkalu_run_plan(call->input, call->input_length, call->output, call->output_length);
+    }
+}
+
+void say_where(const char *name, size_t position)
+{
+    now.name = name;
+    now.position = position;
+}
+
+static void name_the_function(void)
+{
+    fprintf(stderr, "sanitize: %s", now.name);
+    if (now.position != 0) {
+        fprintf(stderr, ", text %zu", now.position);
+    }
+    fprintf(stderr, ", %s of %zu bytes", name_of(now.function), now.input_length);
+}
+
+static void name_the_run(const char *what)
+{
+    static const char *const places[PLACES] = {"at the end of the pages", "at the start of the pages", "on the heap"};
+    name_the_function();
+    fprintf(stderr, ", %s, room for %zu bytes: %s\n", places[now.place], now.room, what);
+}
+
+void name_the_last_run(void)
+{
+    if (now.is_under_way) {
+        name_the_run("this run did not come back");
+    }
+}
+
+void expect(struct bench *bench, bool right, const char *what)
+{
+    if (!right) {
+        name_the_function();
+        fprintf(stderr, ": %s\n", what);
+        bench->faults++;
+    }
+}
+
+static void expect_of_run(struct bench *bench, bool right, const char *what)
+{
+    if (!right) {
+        name_the_run(what);
+        bench->faults++;
+    }
+}
+
+/* No bytes are no block: a null pointer. */
+static uint8_t *heap_block(size_t length)
+{
+    uint8_t *block = length == 0 ? NULL : malloc(length);
+    if (block == NULL && length != 0) {
+        give_up("malloc");
+    }
+    return block;
+}
+
+/* Each place has a pattern of its own, so that no byte can be written unseen by being what stands there. None of them is text. */
+void set_up(struct bench *bench, caller *call)
+{
+    *bench = (struct bench){.call = call};
+    for (size_t place = 0; place < ON_THE_HEAP; place++) {
+        bench->input_pages[place] = map_guarded(URREZKALU_LONGEST_PLAN);
+    }
+    bench->output_pages = map_guarded(URREZKALU_LONGEST_REPORT + MORE);
+    for (size_t place = 0; place < PLACES; place++) {
+        bench->patterns[place] = heap_block(bench->output_pages.size);
+        for (size_t i = 0; i < bench->output_pages.size; i++) {
+            bench->patterns[place][i] = (uint8_t)(0x80 + (i * 7 + place * 41) % 127);
+        }
+    }
+}
+
+void clear_away(struct bench *bench)
+{
+    for (size_t place = 0; place < PLACES; place++) {
+        free(bench->patterns[place]);
+    }
+    unmap_guarded(bench->output_pages);
+    for (size_t place = 0; place < ON_THE_HEAP; place++) {
+        unmap_guarded(bench->input_pages[place]);
+    }
+}
+
+/* The first of `length` bytes at the end or at the start of the pages. */
+static uint8_t *within(struct guarded pages, enum place place, size_t length)
+{
+    return place == AT_THE_END ? pages.first + (pages.size - length) : pages.first;
+}
+
+void lay_down(struct bench *bench, const uint8_t *input, size_t input_length)
+{
+    bench->input = input;
+    bench->input_length = input_length;
+    /* A text that is no plan by its length alone has pages of its own, and they go with it: many pages are slow to allow. */
+    size_t least = input_length > URREZKALU_LONGEST_PLAN ? input_length : URREZKALU_LONGEST_PLAN;
+    for (enum place place = 0; place < ON_THE_HEAP; place++) {
+        struct guarded *pages = &bench->input_pages[place];
+        if (pages->size != whole_pages(least)) {
+            unmap_guarded(*pages);
+            *pages = map_guarded(least);
+        }
+        allow(*pages, PROT_READ | PROT_WRITE);
+        if (input_length != 0) {
+            memcpy(within(*pages, place, input_length), input, input_length);
+        }
+        allow(*pages, PROT_READ);
+    }
+}
+
+static uint64_t run(struct bench *bench, const struct trial *trial, const uint8_t *input, uint8_t *output)
+{
+    if (now.room != 0) {
+        memcpy(output, bench->patterns[now.place], now.room);
+    }
+    bench->runs++;
+    now.is_under_way = true;
+    uint64_t number = bench->call(&(struct call){trial->function, input, bench->input_length, output, now.room});
+    now.is_under_way = false;
+    return number;
+}
+
+/* Runs the function and looks at the number and at the output, in which all that is not written must be the pattern. */
+static void run_and_look(struct bench *bench, const struct trial *trial, const uint8_t *input, uint8_t *output)
+{
+    uint64_t number = run(bench, trial, input, output);
+    size_t length = urrezkalu_length(trial->number) * unit_of(trial->function);
+    bool fits = length <= now.room;
+    size_t written = fits ? length : 0;
+    const uint8_t *pattern = bench->patterns[now.place];
+    expect_of_run(bench, number == (fits ? trial->number : (uint64_t)URREZKALU_NO_ROOM << 32), "the wrong number came back");
+    expect_of_run(bench, written == 0 || memcmp(output, trial->output, written) == 0, "what is written is not that of the first run");
+    expect_of_run(bench, now.room == written || memcmp(output + written, pattern + written, now.room - written) == 0,
+                  "a byte has changed that is none of those written");
+}
+
+static void run_with_room(struct bench *bench, const struct trial *trial, const uint8_t *input, size_t room)
+{
+    now.room = room;
+    if (now.place == ON_THE_HEAP) {
+        uint8_t *output = heap_block(room);
+        run_and_look(bench, trial, input, output);
+        free(output);
+    } else {
+        run_and_look(bench, trial, input, within(bench->output_pages, now.place, room));
+    }
+}
+
+/* Runs the function with all rooms, in the place that is named by now. */
+static void run_with_all_rooms(struct bench *bench, const struct trial *trial, const uint8_t *input)
+{
+    const struct nature *function = &functions[trial->function];
+    if (function->rooms != 0 && bench->input_length <= function->longest_input) {
+        for (size_t places = 0; places <= function->rooms; places++) {
+            run_with_room(bench, trial, input, places * function->unit);
+        }
+        return;
+    }
+    /* What is refused must leave any buffer alone, and one with room for all too. */
+    bool done = urrezkalu_code(trial->number) == URREZKALU_DONE;
+    size_t enough = (done ? urrezkalu_length(trial->number) : function->most) * function->unit;
+    run_with_room(bench, trial, input, 0);
+    run_with_room(bench, trial, input, enough - function->unit);
+    run_with_room(bench, trial, input, enough);
+    run_with_room(bench, trial, input, enough + MORE);
+}
+
+/* The input is a heap block of just its length, and so is each output. */
+static void run_on_the_heap(struct bench *bench, const struct trial *trial)
+{
+    now.place = ON_THE_HEAP;
+    uint8_t *input = heap_block(bench->input_length);
+    if (bench->input_length != 0) {
+        memcpy(input, bench->input, bench->input_length);
+    }
+    run_with_all_rooms(bench, trial, input);
+    expect_of_run(bench, bench->input_length == 0 || memcmp(input, bench->input, bench->input_length) == 0, "the input has changed");
+    free(input);
+}
+
+/* Finds out what the function comes to where there is room for all that it can write, and whether that is an answer of its at all. */
+static void first_run(struct bench *bench, struct trial *trial)
+{
+    const struct nature *function = &functions[trial->function];
+    now.place = AT_THE_END;
+    now.room = function->most * function->unit;
+    const uint8_t *input = within(bench->input_pages[now.place], now.place, bench->input_length);
+    uint8_t *output = within(bench->output_pages, now.place, now.room);
+    trial->number = run(bench, trial, input, output);
+    memcpy(trial->output, output, now.room);
+    uint32_t code = urrezkalu_code(trial->number);
+    uint64_t rest = trial->number & UINT32_MAX;
+    if (code == URREZKALU_DONE) {
+        bench->done[trial->function]++;
+        expect_of_run(bench, rest >= function->least && rest <= function->most, "it writes nothing of this length");
+        expect_of_run(bench, bench->input_length <= function->longest_input, "it is done with nothing of this length");
+    } else if (code == URREZKALU_MALFORMED) {
+        bench->refused[trial->function]++;
+        expect_of_run(bench, rest >= 1 && rest <= function->last_line, "no fault has this line");
+    } else {
+        bench->refused[trial->function]++;
+        expect_of_run(bench, code == function->refusal && rest == 0, "there is no such number where there is room");
+    }
+}
+
+bool try_function(struct bench *bench, struct trial *trial, enum function function)
+{
+    size_t faults = bench->faults;
+    trial->function = function;
+    now.function = function;
+    now.input_length = bench->input_length;
+    first_run(bench, trial);
+    if (bench->faults != faults) {
+        return false;
+    }
+    for (now.place = 0; now.place < ON_THE_HEAP; now.place++) {
+        run_with_all_rooms(bench, trial, within(bench->input_pages[now.place], now.place, bench->input_length));
+    }
+    run_on_the_heap(bench, trial);
+    return bench->faults == faults;
+}
