@@ -15,16 +15,16 @@ use Rattle.rules.specs.Answers.{code}
 use Rattle.rules.specs.Call.{answer}
 use Rattle.rules.specs.Run.{Step, Result, result, run, left}
 use Rattle.rules.proofs.Demand3.{demand-3}
-use Rattle.format.specs.Line.{bytes, hexText, decimalText, keyedText, linesText, Read, read, faultAt, readLines}
+use Rattle.format.specs.Line.{linesText, Read, read, faultAt, readLines}
 use Rattle.format.specs.Sheet.{idKinds, setKinds, flagKinds, sheetKinds, sheetValues, sheetText, credentialsOf, readFront}
 use Rattle.format.specs.Step.{stepKinds, attributeKey, attributeText, stepText, readAttribute, stepOf, readStep}
 use Rattle.format.specs.Plan.{Plan, stepsText, planText, MOST-STEPS, readSteps, readPlan}
-use Rattle.format.specs.Report.{resultKinds, resultText, resultsText, reportText, report, malformed, invalid, judged, verdict}
+use Rattle.format.specs.Report.{resultText, resultsText, reportText, report, malformed, invalid, judged, verdict}
 use Rattle.format.specs.RoundTrip.{Writable, WritableSheet, AllWritable}
 use Rattle.format.specs.Longest.{longestPlan, longestReport, Longest}
 use Rattle.format.proofs.Alike.{Alike, mapped-alike, next-alike, lines-alike, attribute-alike}
 use Rattle.format.proofs.Decimals.{below-or-not}
-use Rattle.format.proofs.Lengths.{length-hex, length-one, at-most, length-keyed, mostLines, length-lines, length-attribute}
+use Rattle.format.proofs.Lengths.{length-one, at-most, mostLines, length-lines, length-result-lines, length-attribute}
 use Rattle.format.proofs.Sheets as Sheets
 use Rattle.format.proofs.Steps as Steps
 use Rattle.format.proofs.RoundTrip.{plan-round-trip}
@@ -93,20 +93,8 @@ result-small start x = code-small (answer start (x .number) (x .a) (x .b) (x .c)
 
 -- a code's line of 8 bytes and a value's of 23
 length-result : (r : Result) → r .code ≤ 99 → length (resultText r) ≤ 31
-unfolding resultText resultKinds linesText
-length-result r h =
-    let codeKey = bytes "code=" in
-    let valueKey = bytes "value=" in
-    let valueLine = keyedText valueKey (hexText 16 (r .value)) in
-    omega (
-      arith,
-      length-append (keyedText codeKey (decimalText (r .code))) (valueLine ++ []),
-      length-append valueLine [],
-      length-keyed codeKey (decimalText (r .code)),
-      at-most 1 (r .code) (omega arith),
-      length-keyed valueKey (hexText 16 (r .value)),
-      length-hex 16 (r .value),
-    )
+unfolding resultText
+length-result r h = omega (arith, length-result-lines (r .code) (r .value), at-most 1 (r .code) (omega arith))
 
 length-results : (start : Credentials) (xs : List Step) → length (resultsText (run start xs)) ≤ length xs * 31
 unfolding run resultsText
