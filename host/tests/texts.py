@@ -325,6 +325,7 @@ add("call-30-digits", SHEET + step("9" * 30), n70(12), "line 12")
 add("a-15-digits", SHEET + step(4, a="0" * 15), n70(13), "16 digits wanted: line 13")
 add("a-17-digits", SHEET + step(4, a="0" * 17), n70(13), "16 digits wanted: line 13")
 add("a-decimal", SHEET + step(4, a="17"), n70(13), "16 digits wanted: line 13")
+add("second-step-a-1-digit", SHEET + step() + "call=1\na=0\n", n70(18), "16 digits wanted: 17 + 1")
 add("b-empty", SHEET + step(4, b=""), n70(14), "16 digits wanted: line 14")
 add("c-upper-case", SHEET + step(2, c="000000000000040A"), n70(15), "lower case: line 15")
 add("operands-all-ones", SHEET + step(10, "f" * 16, "f" * 16, "f" * 16), rep([(22, 0)], SHEET),
@@ -339,6 +340,11 @@ add("setfsuid-asks", S(fsuid="4294967294") + step(18, a="00000000ffffffff"),
     rep([(0, 4294967294)], S(fsuid="4294967294")), "setfsuid only asks: value 00000000fffffffe")
 add("refused-goes-on", SHEET + step(3, a="0000000000000011") + step(99) + step(1, attr="00") + step(4, a="0000000000000011"),
     rep([(1, 0), (22, 0), (60, 0), (0, 1)], SHEET), "a refused step does not stop the plan: 1, 22, 60, then done")
+RAW = "0000000000002000"
+add("second-call-from-the-first",
+    S(permitted=RAW, inheritable=RAW, effective=RAW, ambient=RAW) + step(8) + step(7, a="000000000000000d"),
+    rep([(0, 0), (0, 0)], S(permitted=RAW, inheritable=RAW, effective=RAW)),
+    "call 8 clears A; call 7 starts from there, so 13 is not in A: value 0")
 
 # ---- Many steps
 ROOTKW = dict(ruid="0", euid="0", suid="0", fsuid="0", permitted="000001ffffffffff", effective="000001ffffffffff")

@@ -3,3 +3,4 @@ pub mod Stores
 pub mod Outcomes
 pub mod ReadBack
 pub mod RoundTrip
+pub mod Examples

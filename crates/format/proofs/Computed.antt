@@ -1,4 +1,4 @@
--- The table of texts holds, by computation. Assumes nothing.
+-- The texts come to what is said of them, by computation. Assumes nothing.
 use mathlib.Core.Path.{refl}
 use Rattle.capabilities.specs.Sets.{has, lacks, minus, single, outside}
 use Rattle.attribute.specs.Words.{wordAt}
@@ -6,7 +6,6 @@ use Rattle.attribute.specs.Reader.{fileOf, lengthOf, reading, unreadable, versi
 use Rattle.credentials.specs.Validity.{valid}
 use Rattle.rules.specs.Fields.{number}
 use Rattle.rules.specs.Launching.{ignoresSetId, ignoresAttribute, fileRead, inForce, effectiveId, launchedIds, rootCounts, countedSet, counted, isPrivileged, launchedAmbient, gained, launchedEffective, launchedSets, fallsShort, launched, launch}
-use Rattle.rules.specs.Ambient.{ambientIsSet, ambientClearAll}
 use Rattle.rules.specs.Decoding.{usesOne, known, decode}
 use Rattle.rules.specs.Call.{answer}
 use Rattle.rules.specs.Run.{result, run, lastOf}
@@ -15,33 +14,26 @@ use Rattle.format.specs.Sheet.{idKinds, setKinds, flagKinds, sheetKinds,
 use Rattle.format.specs.Step.{stepKinds, readPairs, readStep}
 use Rattle.format.specs.Plan.{readSteps, readPlan}
 use Rattle.format.specs.Report.{resultKinds, resultText, resultsText, reportText, verdict}
-use Rattle.format.specs.Texts.{TextsHold, times, table, found, wanted}
+use Rattle.format.specs.Texts.{TextsHold, times}
 
 pub texts-hold : TextsHold
-unfolding readSheet sheetAnswer sheetBuffer ambientIsSet ambientClearAll has lacks minus single outside wordAt fileOf lengthOf reading unreadable version1 version2 valid number ignoresSetId ignoresAttribute fileRead inForce effectiveId launchedIds rootCounts countedSet counted isPrivileged launchedAmbient gained launchedEffective launchedSets fallsShort launched launch usesOne known decode answer result run lastOf hexText decimalOf decimalText keyedText linesText readHex readDigits readDecimal afterKey readLines idKinds setKinds flagKinds sheetKinds sheetText readFront stepKinds readPairs readStep readSteps readPlan resultKinds resultText resultsText reportText verdict times table found wanted
+unfolding readSheet sheetAnswer sheetBuffer has lacks minus single outside wordAt fileOf lengthOf reading unreadable version1 version2 valid number ignoresSetId ignoresAttribute fileRead inForce effectiveId launchedIds rootCounts countedSet counted isPrivileged launchedAmbient gained launchedEffective launchedSets fallsShort launched launch usesOne known decode answer result run lastOf hexText decimalOf decimalText keyedText linesText readHex readDigits readDecimal afterKey readLines idKinds setKinds flagKinds sheetKinds sheetText readFront stepKinds readPairs readStep readSteps readPlan resultKinds resultText resultsText reportText verdict times
 texts-hold =
     record {
-      rows = refl;
-      sheet = refl;
+      case-2 = refl;
+      refused-step = refl;
+      empty = refl;
+      step-257 = refl;
+      leading-zero = refl;
+      upper-case = refl;
+      odd-digits = refl;
+      above-decimal = refl;
+      above-valid = refl;
+      fault-first = refl;
       past-the-sheet = refl;
-      past-an-invalid-sheet = refl;
-      not-valid = refl;
-      second-line = refl;
-      codes = refl;
-      lines = refl;
-      written = refl;
-      written-buffer = refl;
-      no-room = refl;
-      no-room-buffer = refl;
-      not-valid-written = refl;
-      not-valid-buffer = refl;
-      done = refl;
-      done-buffer = refl;
-      one-short = refl;
-      one-short-buffer = refl;
-      at-fault = refl;
-      at-fault-buffer = refl;
-      invalid-start = refl;
-      invalid-buffer = refl;
+      invalid-sheet = refl;
+      invalid-first = refl;
+      written-sheet = refl;
+      written-report = refl;
       numbers = refl;
     }

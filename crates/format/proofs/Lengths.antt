@@ -1,6 +1,6 @@
 -- How long the written texts of digits and lines are. Assumes nothing.
 use mathlib.Core.Path.{_≡_, refl, ap, _∙_}
-use mathlib.Core.List.{List, [], _∷_}
+use mathlib.Core.List.{List, [], _∷_, append-nil}
 use mathlib.Core.Logic.{⊎-elim}
 use Prim.Native.Nat.{ℕ, zero, suc, _+_, _*_, _/_, _%_, _^_, _<_, _≤_}
 use native.Mathlib.Nat.{pow-suc, not-suc-le-zero}
@@ -9,6 +9,7 @@ use native.Mathlib.Omega.{arith}
 use lib.ListN.{length, length-append}
 use Rattle.format.specs.Line.{Form, decimal, hex, Kind, digit, hexText, decimalText, valueText, keyedText, keyText, lineText, linesText}
 use Rattle.format.specs.Step.{pairsText}
+use Rattle.format.specs.Report.{resultKinds}
 use Rattle.format.proofs.Decimals.{below-or-not, decimal-one, decimal-more}
 use Rattle.format.proofs.Fitting.{Fits, FitAll}
 
@@ -59,7 +60,7 @@ length-up-to v m h = no-longer (suc v) v m (omega arith) h
 -- ---- lines
 
 -- the most digits of a value in a form
-abbrev pub mostDigits : Form → ℕ
+abbrev mostDigits : Form → ℕ
 mostDigits (decimal largest) = length (decimalText largest)
 mostDigits (hex n) = n
 
@@ -93,6 +94,11 @@ length-lines [] vs h = omega arith
 length-lines (k ∷ ks) [] h = absurd h
 length-lines (k ∷ ks) (v ∷ vs) h =
     omega (arith, length-append (lineText k v) (linesText ks vs), length-line (keyText k) (k .form) v (h .0), length-lines ks vs (h .1))
+
+-- a result's two lines
+pub length-result-lines : (code value : ℕ) → length (linesText resultKinds (code ∷ value ∷ [])) ≡ 29 + length (decimalText code)
+unfolding linesText resultKinds
+length-result-lines code value = simp (append-nil, length-append, length-keyed, length-hex) (omega arith)
 
 -- the digits of an attribute
 length-pairs : (bs : List ℕ) → length (pairsText bs) ≡ 2 * length bs

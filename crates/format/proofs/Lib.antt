@@ -6,6 +6,7 @@ pub mod Fitting
 pub mod Lengths
 pub mod Longest
 pub mod Pairs
+pub mod Reached
 pub mod ReadWritten
 pub mod Reading
 pub mod RoundTrip

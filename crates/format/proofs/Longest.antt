@@ -15,19 +15,20 @@ use Rattle.rules.specs.Answers.{code}
 use Rattle.rules.specs.Call.{answer}
 use Rattle.rules.specs.Run.{Step, Result, result, run, left}
 use Rattle.rules.proofs.Demand3.{demand-3}
-use Rattle.format.specs.Line.{bytes, hexText, decimalText, keyedText, linesText, Read, read, faultAt, readLines}
+use Rattle.format.specs.Line.{linesText, Read, read, faultAt, readLines}
 use Rattle.format.specs.Sheet.{idKinds, setKinds, flagKinds, sheetKinds, sheetValues, sheetText, credentialsOf, readFront}
 use Rattle.format.specs.Step.{stepKinds, attributeKey, attributeText, stepText, readAttribute, stepOf, readStep}
 use Rattle.format.specs.Plan.{Plan, stepsText, planText, MOST-STEPS, readSteps, readPlan}
-use Rattle.format.specs.Report.{resultKinds, resultText, resultsText, reportText, report, malformed, invalid, judged, verdict}
+use Rattle.format.specs.Report.{resultText, resultsText, reportText, report, malformed, invalid, judged, verdict}
 use Rattle.format.specs.RoundTrip.{Writable, WritableSheet, AllWritable}
-use Rattle.format.specs.Longest.{Longest}
+use Rattle.format.specs.Longest.{longestPlan, longestReport, Longest}
 use Rattle.format.proofs.Alike.{Alike, mapped-alike, next-alike, lines-alike, attribute-alike}
 use Rattle.format.proofs.Decimals.{below-or-not}
-use Rattle.format.proofs.Lengths.{length-hex, length-one, at-most, length-keyed, mostLines, length-lines, length-attribute}
+use Rattle.format.proofs.Lengths.{length-one, at-most, mostLines, length-lines, length-result-lines, length-attribute}
 use Rattle.format.proofs.Sheets as Sheets
 use Rattle.format.proofs.Steps as Steps
 use Rattle.format.proofs.RoundTrip.{plan-round-trip}
+use Rattle.format.proofs.Reached.{plan, text, text-read, text-length, text-verdict, report-length}
 
 -- ---- sheets, steps and plans
 
@@ -63,7 +64,7 @@ unfolding stepsText AllWritable
 length-steps [] w = omega arith
 length-steps (s ∷ ss) w = omega (arith, length-append (stepText s) (stepsText ss), length-step s (w .0), length-steps ss (w .1))
 
-length-plan : (text : List ℕ) (p : Plan) (rest : List ℕ) → readPlan text ≡ read p rest → length text ≤ 30683
+length-plan : (text : List ℕ) (p : Plan) (rest : List ℕ) → readPlan text ≡ read p rest → length text ≤ longestPlan
 unfolding planText
 length-plan text p rest e =
     let r = plan-round-trip .read-written text p rest e in
@@ -92,20 +93,8 @@ result-small start x = code-small (answer start (x .number) (x .a) (x .b) (x .c)
 
 -- a code's line of 8 bytes and a value's of 23
 length-result : (r : Result) → r .code ≤ 99 → length (resultText r) ≤ 31
-unfolding resultText resultKinds linesText
-length-result r h =
-    let codeKey = bytes "code=" in
-    let valueKey = bytes "value=" in
-    let valueLine = keyedText valueKey (hexText 16 (r .value)) in
-    omega (
-      arith,
-      length-append (keyedText codeKey (decimalText (r .code))) (valueLine ++ []),
-      length-append valueLine [],
-      length-keyed codeKey (decimalText (r .code)),
-      at-most 1 (r .code) (omega arith),
-      length-keyed valueKey (hexText 16 (r .value)),
-      length-hex 16 (r .value),
-    )
+unfolding resultText
+length-result r h = omega (arith, length-result-lines (r .code) (r .value), at-most 1 (r .code) (omega arith))
 
 length-results : (start : Credentials) (xs : List Step) → length (resultsText (run start xs)) ≤ length xs * 31
 unfolding run resultsText
@@ -121,7 +110,7 @@ length-results start (x ∷ xs) =
     )
 
 -- and the sheet of the last state, which is valid
-length-report : (p : Plan) → valid (p .start) ≡ true → length (p .steps) ≤ 256 → length (reportText p) ≤ 8155
+length-report : (p : Plan) → valid (p .start) ≡ true → length (p .steps) ≤ 256 → length (reportText p) ≤ longestReport
 unfolding reportText
 length-report p v n =
     let last = left (p .start) (p .steps) in
@@ -133,16 +122,16 @@ length-report p v n =
     )
 
 length-reported : (p : Plan) (t : List ℕ) (b : Bool) → valid (p .start) ≡ b → length (p .steps) ≤ 256 → cond b (report (reportText p)) invalid ≡ report t
-    → length t ≤ 8155
+    → length t ≤ longestReport
 length-reported p t true v n e = let q : reportText p ≡ t = cc in omega (arith, ap length q, length-report p v n)
 length-reported p t false v n e = let z : _≡_ {A = ℕ} 0 1 = cc in absurd (omega arith)
 
-length-judged : (text t : List ℕ) (r : Read Plan) → readPlan text ≡ r → judged r ≡ report t → length t ≤ 8155
+length-judged : (text t : List ℕ) (r : Read Plan) → readPlan text ≡ r → judged r ≡ report t → length t ≤ longestReport
 length-judged text t (read p rest) q e =
     length-reported p t (valid (p .start)) refl (plan-round-trip .read-written text p rest q .2 .count) e
 length-judged text t (faultAt line) q e = let z : _≡_ {A = ℕ} 0 1 = cc in absurd (omega arith)
 
-length-verdict : (text t : List ℕ) → verdict text ≡ report t → length t ≤ 8155
+length-verdict : (text t : List ℕ) → verdict text ≡ report t → length t ≤ longestReport
 unfolding verdict
 length-verdict text t e = length-judged text t (readPlan text) refl e
 
@@ -206,7 +195,9 @@ cut text =
 pub longest : Longest
 longest =
     record {
-      plan = λ text p rest e. omega (arith, length-plan text p rest e);
+      plans = length-plan;
+      a-longest-plan = (text, plan, [], text-read, text-length);
+      reports = length-verdict;
+      a-longest-report = (text, reportText plan, text-verdict, report-length);
       cut = cut;
-      report = λ text t e. omega (arith, length-verdict text t e);
     }

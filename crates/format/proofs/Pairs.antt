@@ -25,11 +25,12 @@ pair-text b = refl
 
 -- ---- what was written is read
 
-pairs-end : (n : ℕ) (front t : List ℕ) → readPairs n front (newline ∷ t) ≡ read front t
+-- a newline ends the bytes
+pub newline-read : (n : ℕ) (front t : List ℕ) → readPairs n front (newline ∷ t) ≡ read front t
 unfolding readPairs
-pairs-end zero front t = refl
-pairs-end (suc n) front [] = refl
-pairs-end (suc n) front (c ∷ t) = refl
+newline-read zero front t = refl
+newline-read (suc n) front [] = refl
+newline-read (suc n) front (c ∷ t) = refl
 
 pair-read : (n c d : ℕ) (front t : List ℕ) → c < 16 → d < 16
     → readPairs (suc n) front (digit c ∷ digit d ∷ t) ≡ readPairs n (front ++ ((c * 16 + d) ∷ [])) t
@@ -42,7 +43,7 @@ rest-bytes b bs h = record { small = λ at. h .small (suc at) }
 
 pairs-read : (n : ℕ) (front bs t : List ℕ) → Bytes bs → length bs ≤ n → readPairs n front (pairsText bs ++ (newline ∷ t)) ≡ read (front ++ bs) t
 unfolding pairsText
-pairs-read n front [] t h l = pairs-end n front t ∙ ap (λ (xs : List ℕ). read xs t) (sym (append-nil front))
+pairs-read n front [] t h l = newline-read n front t ∙ ap (λ (xs : List ℕ). read xs t) (sym (append-nil front))
 pairs-read zero front (b ∷ bs) t h l = absurd (not-suc-le-zero l)
 pairs-read (suc n) front (b ∷ bs) t h l =
     let whole : b / 16 % 16 * 16 + b % 16 ≡ b = omega (arith, h .small 0) in

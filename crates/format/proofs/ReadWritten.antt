@@ -99,7 +99,7 @@ decimal-told m w (b ∷ t) rest e =
     (moved [] _ t b one ∙ i .0, i .1)
 
 -- a value that is read and its newline
-pub value-written : (f : Form) (w : ℕ) (t rest : List ℕ) → readValue f t ≡ read w rest → (t ≡ valueText f w ++ (newline ∷ rest)) × Fits f w
+value-written : (f : Form) (w : ℕ) (t rest : List ℕ) → readValue f t ≡ read w rest → (t ≡ valueText f w ++ (newline ∷ rest)) × Fits f w
 value-written (decimal m) w t rest e = decimal-told m w t rest e
 value-written (hex n) w t rest e = hex-whole n w t rest (hex-told n 0 0 w t rest e (omega arith))
 

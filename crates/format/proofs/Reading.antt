@@ -1,5 +1,5 @@
--- What it tells that something was read: every step of the reading went well. Assumes nothing.
-use mathlib.Core.Path.{_≡_, refl}
+-- What it tells that something was read, every step of the reading having gone well, or that there was a fault. Assumes nothing.
+use mathlib.Core.Path.{_≡_, refl, ap}
 use mathlib.Core.List.{List}
 use mathlib.Core.Bool.{Bool, true, false, cond}
 use Prim.Native.Nat.{ℕ}
@@ -42,3 +42,8 @@ module _ {A : Type 0} (w : A) (rest : List ℕ) where
   pub mapped-told : {B : Type 0} (f : B → A) (r : Read B) → mapped f r ≡ read w rest → (v : B) × (r ≡ read v rest) × (f v ≡ w)
   mapped-told f (read v t) e = let p : t ≡ rest = cc in (v, rw p, cc)
   mapped-told f (faultAt line) e = fault-read e
+
+-- a fault, where a value would have been made of what was read
+pub mapped-fault : {A B : Type 0} (f : A → B) (r : Read A) (line : ℕ) → mapped f r ≡ faultAt line → r ≡ faultAt line
+mapped-fault f (read v t) line e = let z : _≡_ {A = ℕ} 0 1 = cc in absurd (omega arith)
+mapped-fault f (faultAt n) line e = let p : n ≡ line = cc in ap faultAt p

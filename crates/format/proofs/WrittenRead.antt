@@ -65,7 +65,7 @@ decimal-end m v t = refl
 -- ---- a value, a key, a line
 
 -- a written value and a newline
-pub value-read : (f : Form) (v : ℕ) (t : List ℕ) → Fits f v → readValue f (valueText f v ++ (newline ∷ t)) ≡ read v t
+value-read : (f : Form) (v : ℕ) (t : List ℕ) → Fits f v → readValue f (valueText f v ++ (newline ∷ t)) ≡ read v t
 value-read (decimal m) v t h = decimal-digits (suc v) m v (newline ∷ t) (omega arith) h ∙ decimal-end m v t
 value-read (hex n) v t h = hex-digits n 0 n v (newline ∷ t) (sym (add-zero n)) h ∙ hex-end v t
 

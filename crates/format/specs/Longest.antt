@@ -1,5 +1,5 @@
 -- How long plans and reports can be; proofs/Longest.antt proves it. Assumes nothing.
-use Prim.Native.Nat.{ℕ, _≤_}
+use Prim.Native.Nat.{ℕ, _+_, _≤_}
 use mathlib.Core.Path.{_≡_}
 use mathlib.Core.List.{List}
 use lib.ListN.{length, take}
@@ -7,10 +7,20 @@ use Rattle.format.specs.Line.{read}
 use Rattle.format.specs.Plan.{Plan, readPlan}
 use Rattle.format.specs.Report.{report, verdict}
 
+-- the bytes of a longest plan: a sheet of 219 and 256 steps of 119
+abbrev pub longestPlan : ℕ
+longestPlan = 30683
+
+-- the bytes of a longest report: 256 results of 31 and a sheet of 219
+abbrev pub longestReport : ℕ
+longestReport = 8155
+
 pub record Longest : Type 0 where
-  -- a text that is read as a plan has at most 30,683 bytes
-  pub plan : (text : List ℕ) (p : Plan) (rest : List ℕ) → readPlan text ≡ read p rest → length text ≤ 30683
-  -- what stands after the first 30,684 bytes decides nothing
-  pub cut : (text : List ℕ) → verdict (take 30684 text) ≡ verdict text
-  -- a report has at most 8,155 bytes
-  pub report : (text t : List ℕ) → verdict text ≡ report t → length t ≤ 8155
+  -- a text that is read as a plan has at most so many bytes, and some text has as many
+  pub plans : (text : List ℕ) (p : Plan) (rest : List ℕ) → readPlan text ≡ read p rest → length text ≤ longestPlan
+  pub a-longest-plan : (text : List ℕ) × (p : Plan) × (rest : List ℕ) × (readPlan text ≡ read p rest) × (length text ≡ longestPlan)
+  -- a report has at most so many bytes, and some report has as many
+  pub reports : (text t : List ℕ) → verdict text ≡ report t → length t ≤ longestReport
+  pub a-longest-report : (text : List ℕ) × (t : List ℕ) × (verdict text ≡ report t) × (length t ≡ longestReport)
+  -- what stands after one byte more than a longest plan has decides nothing
+  pub cut : (text : List ℕ) → verdict (take (longestPlan + 1) text) ≡ verdict text

@@ -1,6 +1,7 @@
 // The text format of sheets, plans and reports: the types of what comes back here, the definitions in specs/.
 //
-// There are no functions: the crates `text`, `sheet` and `plan` have the code that reads and writes this format. The crate assumes nothing.
+// There are no functions: the crates `line_reader`, `line_writer`, `sheet_reader`, `sheet_writer` and `plan` have the code that reads and writes this
+// format. The crate assumes nothing.
 use credentials::Credentials;
 
 // What a text that is to be a sheet is read as: credentials, or refused: malformed at a line (70), or not valid (72). specs/Sheet.antt gives

@@ -29,7 +29,7 @@ module _ (key : List ℕ) (form : Form) (text : List ℕ) (p : Place) where
   number-none h = ap (λ (t : Bool). cond t (record { value = 0; place = p }) (readNumber text p (readKeyed key form (drop (p .at) text)))) h
 
   -- where there was none
-  pub number-some : p .fault ≡ false → numberAt key form text p ≡ readNumber text p (readKeyed key form (drop (p .at) text))
+  number-some : p .fault ≡ false → numberAt key form text p ≡ readNumber text p (readKeyed key form (drop (p .at) text))
   unfolding numberAt
   number-some h = ap (λ (t : Bool). cond t (record { value = 0; place = p }) (readNumber text p (readKeyed key form (drop (p .at) text)))) h
 
@@ -107,7 +107,7 @@ module _ (k : Kind) (ks : List Kind) (text : List ℕ) (p : Place) where
       ap (λ (m : ℕ). faultAt (p .lines + m)) l ∙ ap faultAt (sym n) ∙ sym (seen-fault _ (atFault p) _ text (lines-stay ks text (atFault p) refl) refl)
 
 -- lines from a place on are what the format reads there
-pub lines-seen : (ks : List Kind) (text : List ℕ) (p : Place) → p .fault ≡ false → p .lines + length ks < 2 ^ 32
+lines-seen : (ks : List Kind) (text : List ℕ) (p : Place) → p .fault ≡ false → p .lines + length ks < 2 ^ 32
     → below (p .lines) (readLines ks (drop (p .at) text)) ≡ seen (linesAt ks text p) text
 unfolding linesAt readLines
 lines-seen [] text p h b = sym (ap (λ (t : Bool). cond t (faultAt (p .lines)) (read [] (drop (p .at) text))) h)
@@ -211,7 +211,7 @@ module _ (key text : List ℕ) (p : Place) where
   unfolding attributeAt
   bytes-none h = sym (ap (λ (t : Bool). cond t (noAttribute p) (readBytes text p (readAttribute key (drop (p .at) text)))) h)
 
-  pub bytes-some : p .fault ≡ false → attributeAt key text p ≡ readBytes text p (readAttribute key (drop (p .at) text))
+  bytes-some : p .fault ≡ false → attributeAt key text p ≡ readBytes text p (readAttribute key (drop (p .at) text))
   unfolding attributeAt
   bytes-some h = ap (λ (t : Bool). cond t (noAttribute p) (readBytes text p (readAttribute key (drop (p .at) text)))) h
 

@@ -10,18 +10,13 @@ use lib.ListN.{length, getD, set, take, drop, replicate, length-drop, drop-of-le
 use lib.Seq.{drop-cons, drop-drop, length-take-le}
 use Rattle.format.specs.Line.{read, fault, hexDigit, newline}
 use Rattle.format.specs.Step.{readPairs}
+use Rattle.format.proofs.Pairs.{newline-read}
 use Rattle.line_reader.specs.declared.lines.Bytes.{Bytes}
 use Rattle.line_reader.specs.Inside.{placedBytes, noBytes, bytesAt}
 use Rattle.line_reader.specs.Inside.{startsWith}
 use Rattle.line_reader.proofs.LineLaws.{position, key-there, key-missing, key-short}
 
 -- ---- one pair of digits
-
-newline-first : (n : ℕ) (bs t : List ℕ) → readPairs n bs (newline ∷ t) ≡ read bs t
-unfolding readPairs
-newline-first zero bs t = refl
-newline-first (suc n) bs [] = refl
-newline-first (suc n) bs (c ∷ t) = refl
 
 no-digit-first : (n b : ℕ) (bs t : List ℕ) → eqb b newline ≡ false → ltb (hexDigit b) 16 ≡ false → readPairs (suc n) bs (b ∷ t) ≡ fault
 unfolding readPairs
@@ -30,7 +25,7 @@ no-digit-first n b bs (c ∷ t) e g = rw (e, g)
 
 module _ (i : ℕ) (text : List ℕ) (h : i < length text) where
   pub pairs-newline : (n : ℕ) (bs : List ℕ) → getD text i 0 ≡ newline → readPairs n bs (drop i text) ≡ read bs (drop (i + 1) text)
-  pairs-newline n bs e = rw (drop-cons text i 0 h, e, add-one i) (newline-first n bs (drop (suc i) text))
+  pairs-newline n bs e = rw (drop-cons text i 0 h, e, add-one i) (newline-read n bs (drop (suc i) text))
 
   -- there are as many bytes as there can be
   pub pairs-full : (n : ℕ) (bs : List ℕ) → n ≡ 0 → eqb (getD text i 0) newline ≡ false → readPairs n bs (drop i text) ≡ fault

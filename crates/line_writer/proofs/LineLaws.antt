@@ -69,7 +69,7 @@ put-keyed key value l at p q hp hq =
     sym (sets-append key (value ++ bytes "\n") l at ∙ rw (← hp) (sets-append value (bytes "\n") (sets l at key) p ∙ rw (← hq)))
 
 -- a text that does not fit
-pub text-refused : (t old : List ℕ) (at : ℕ) → length old < at + length t → (at ≡ writtenTo old at t) × (old ≡ written old at t)
+text-refused : (t old : List ℕ) (at : ℕ) → length old < at + length t → (at ≡ writtenTo old at t) × (old ≡ written old at t)
 unfolding written writtenTo
 text-refused t old at h = rw (lt-leb (at + length t) (length old) h) (refl, refl)
 

@@ -3,7 +3,7 @@ use native.Mathlib.Omega.{arith}
 use native.Mathlib.Numerals.{add-one}
 use native.Mathlib.Nat.{zero-add}
 use mathlib.Core.Path.{_≡_, refl, sym, ap, _∙_}
-use mathlib.Core.List.{List, [], _∷_, _++_, append-nil}
+use mathlib.Core.List.{List, [], _∷_, _++_}
 use mathlib.Core.Bool.{true, cond}
 use Prim.Native.Nat.{ℕ, _+_, _-_, _<_, _≤_}
 use borrow.Author.Tests.{le-leb, lt-leb}
@@ -12,33 +12,24 @@ use lib.Seq.{sets, sets-eq, drop-cons, getD-take, length-take-le, length-sets}
 use Rattle.credentials.specs.Validity.{valid}
 use Rattle.credentials.specs.declared.Credentials.{Credentials}
 use Rattle.rules.specs.Run.{Step, Result, run}
-use Rattle.format.specs.Line.{bytes, hexText, decimalText, keyedText, linesText, Read, read, faultAt, mapped}
+use Rattle.format.specs.Line.{decimalText, linesText, Read, read, faultAt, mapped}
 use Rattle.format.specs.Sheet.{idKinds, setKinds, flagKinds, sheetKinds, sheetText, readFront}
 use Rattle.format.specs.Plan.{readSteps, readPlan}
 use Rattle.format.specs.Report.{resultKinds, resultText, resultsText, reportText, report, malformed, invalid, verdict, outcome, buffer}
 use Rattle.format.specs.declared.Outcome.{Outcome}
-use Rattle.format.proofs.Lengths.{length-hex, length-keyed}
-use Rattle.format.proofs.Reading.{mapped-told}
+use Rattle.format.proofs.Lengths.{length-result-lines}
+use Rattle.format.proofs.Reading.{mapped-told, mapped-fault}
 use Rattle.line_writer.specs.Positions.{written}
 use Rattle.sheet_writer.specs.Positions.{bufferAt}
 use Rattle.rules.proofs.Demand3.{demand-3}
 use Rattle.line_writer.proofs.LineLaws.{sets-append}
 use Rattle.plan.specs.Inside.{Ran, codesOf, valuesOf, ranOf, ranSteps, answersText}
 
--- ---- a result's two lines
-
-pub pair-text : (c v : ℕ) → linesText resultKinds (c ∷ v ∷ []) ≡ keyedText (bytes "code=") (decimalText c) ++ keyedText (bytes "value=") (hexText 16 v)
-unfolding linesText resultKinds
-pair-text c v = simp append-nil
-
-pub pair-length : (c v : ℕ) → length (linesText resultKinds (c ∷ v ∷ [])) ≡ 29 + length (decimalText c)
-pair-length c v = ap length (pair-text c v) ∙ simp (length-append, length-keyed, length-hex) (omega arith)
-
 -- ---- the results' lines
 
 module _ (codes values : List ℕ) (n : ℕ) (p : n ≤ length codes) (q : n ≤ length values) where
   -- the lines from the j-th result on
-  abbrev pub linesFrom : ℕ → List ℕ
+  abbrev linesFrom : ℕ → List ℕ
   linesFrom j = answersText (drop j (take n codes)) (drop j (take n values))
 
   pub lines-step : (j : ℕ) → j < n → linesFrom j ≡ linesText resultKinds (getD codes j 0 ∷ getD values j 0 ∷ []) ++ linesFrom (j + 1)
@@ -56,7 +47,7 @@ module _ (codes values : List ℕ) (n : ℕ) (p : n ≤ length codes) (q : n ≤
   lines-length j h =
       ap length (lines-step j h)
       ∙ length-append (linesText resultKinds (getD codes j 0 ∷ getD values j 0 ∷ [])) (linesFrom (j + 1))
-      ∙ rw (pair-length (getD codes j 0) (getD values j 0))
+      ∙ rw (length-result-lines (getD codes j 0) (getD values j 0))
 
   -- one result's lines more
   pub put-lines : (old buf : List ℕ) (at past j : ℕ) → j < n → past ≡ at + length (linesText resultKinds (getD codes j 0 ∷ getD values j 0 ∷ []))
@@ -104,14 +95,10 @@ module _ (text : List ℕ) where
   unfolding verdict readPlan
   front-at-fault line h = rw h
 
-  fault-ran : (c : Credentials) (r : Read (List Step)) (line : ℕ) → mapped (ranOf c) r ≡ faultAt line → r ≡ faultAt line
-  fault-ran c (read ss t) line h = let z : _≡_ {A = ℕ} 0 1 = cc in absurd (omega arith)
-  fault-ran c (faultAt n) line h = let p : n ≡ line = cc in ap faultAt p
-
   pub steps-at-fault : (c : Credentials) (rest : List ℕ) (line : ℕ) → readFront text ≡ read c rest → ranSteps 256 c rest ≡ faultAt line
       → verdict text ≡ malformed (11 + line)
   unfolding verdict readPlan ranSteps sheetKinds idKinds setKinds flagKinds
-  steps-at-fault c rest line h g = rw (h, fault-ran c (readSteps 256 rest) line g)
+  steps-at-fault c rest line h g = rw (h, mapped-fault (ranOf c) (readSteps 256 rest) line g)
 
   pub plan-ran : (c : Credentials) (rest : List ℕ) (x : Ran) → readFront text ≡ read c rest → ranSteps 256 c rest ≡ read x []
       → verdict text ≡ cond (valid c) (report (answersText (x .codes) (x .values) ++ sheetText (x .last))) invalid

@@ -12,7 +12,7 @@ use Rattle.rules.specs.Run.{Step, Result, result, run, lastOf}
 use Rattle.format.specs.Line.{Read, read, faultAt, fault, below, mapped, readLines}
 use Rattle.format.specs.Step.{stepKinds, attributeKey, readAttribute, stepOf, readStep}
 use Rattle.format.specs.Plan.{readSteps}
-use Rattle.format.proofs.Reading.{mapped-told}
+use Rattle.format.proofs.Reading.{mapped-told, mapped-fault}
 use Rattle.line_reader.specs.declared.Place.{Place}
 use Rattle.line_reader.specs.declared.Attribute.{Attribute}
 use Rattle.line_reader.specs.Positions.{attributeAt}
@@ -108,16 +108,12 @@ module _ (i : ℕ) (text : List ℕ) (c : Credentials) where
   unfolding ranSteps readSteps
   steps-full n e h = rw (e, drop-cons text i 0 h)
 
-  fault-mapped : (r : Read Step) (line : ℕ) → mapped (result c) r ≡ faultAt line → r ≡ faultAt line
-  fault-mapped (read s t) line h = let z : _≡_ {A = ℕ} 0 1 = cc in absurd (omega arith)
-  fault-mapped (faultAt n) line h = let p : n ≡ line = cc in ap faultAt p
-
   pub steps-fault : (n m line : ℕ) → n ≡ m + 1 → i < length text → mapped (result c) (readStep (drop i text)) ≡ faultAt line
       → ranSteps n c (drop i text) ≡ faultAt line
   unfolding ranSteps readSteps stepKinds
   steps-fault n m line e h g =
       let d = drop-cons text i 0 h in
-      let f = rw d at (fault-mapped (readStep (drop i text)) line g) in
+      let f = rw d at (mapped-fault (result c) (readStep (drop i text)) line g) in
       rw (e, add-one m, d, f)
 
   one-step : (n m : ℕ) (r : Result) (rest : List ℕ) → n ≡ m + 1 → i < length text → mapped (result c) (readStep (drop i text)) ≡ read r rest

@@ -26,19 +26,19 @@ text-grouped (k ∷ ks) ls [] ws e = absurd (omega (arith, e))
 text-grouped (k ∷ ks) ls (v ∷ vs) ws e =
     ap (λ (t : List ℕ). lineText k v ++ t) (text-grouped ks ls vs ws (omega (arith, e))) ∙ sym (append-assoc (lineText k v) (linesText ks vs) (linesText ls ws))
 
-pub sheet-text : (c : Credentials)
+sheet-text : (c : Credentials)
     → sheetText c ≡ linesText idKinds (idValues (c .uids)) ++ (linesText setKinds (setValues (c .sets)) ++ linesText flagKinds (flagValues (c .securebits) (c .nnp)))
 unfolding sheetText sheetKinds idKinds setKinds
 sheet-text c =
     text-grouped idKinds (setKinds ++ flagKinds) (idValues (c .uids)) (setValues (c .sets) ++ flagValues (c .securebits) (c .nnp)) refl
     ∙ ap (λ (t : List ℕ). linesText idKinds (idValues (c .uids)) ++ t) (text-grouped setKinds flagKinds (setValues (c .sets)) (flagValues (c .securebits) (c .nnp)) refl)
 
-pub ids-text : (u : Ids) → linesText idKinds (idValues u)
+ids-text : (u : Ids) → linesText idKinds (idValues u)
     ≡ ((keyedText (bytes "ruid=") (decimalText (u .real)) ++ keyedText (bytes "euid=") (decimalText (u .effective))) ++ keyedText (bytes "suid=") (decimalText (u .saved))) ++ keyedText (bytes "fsuid=") (decimalText (u .filesystem))
 unfolding linesText idKinds
 ids-text u = simp (append-assoc, append-nil)
 
-pub sets-text : (s : Sets) → linesText setKinds (setValues s)
+sets-text : (s : Sets) → linesText setKinds (setValues s)
     ≡ (((keyedText (bytes "permitted=") (hexText 16 (s .permitted)) ++ keyedText (bytes "inheritable=") (hexText 16 (s .inheritable))) ++ keyedText (bytes "effective=") (hexText 16 (s .effective))) ++ keyedText (bytes "bounding=") (hexText 16 (s .bounding))) ++ keyedText (bytes "ambient=") (hexText 16 (s .ambient))
 unfolding linesText setKinds
 sets-text s = simp (append-assoc, append-nil)
@@ -55,14 +55,14 @@ unfolding number
 flag-length true = length-one 1 (omega arith)
 flag-length false = length-one 0 (omega arith)
 
-pub ids-length : (u : Ids) → length (linesText idKinds (idValues u))
+ids-length : (u : Ids) → length (linesText idKinds (idValues u))
     ≡ 25 + length (decimalText (u .real)) + length (decimalText (u .effective)) + length (decimalText (u .saved)) + length (decimalText (u .filesystem))
 ids-length u = ap length (ids-text u) ∙ simp (length-append, length-keyed) (omega arith)
 
-pub sets-length : (s : Sets) → length (linesText setKinds (setValues s)) ≡ 134
+sets-length : (s : Sets) → length (linesText setKinds (setValues s)) ≡ 134
 sets-length s = ap length (sets-text s) ∙ simp (length-append, length-keyed, length-hex)
 
-pub flags-length : (securebits : ℕ) (nnp : Bool) → length (linesText flagKinds (flagValues securebits nnp)) ≡ 20
+flags-length : (securebits : ℕ) (nnp : Bool) → length (linesText flagKinds (flagValues securebits nnp)) ≡ 20
 flags-length securebits nnp = ap length (flags-text securebits nnp) ∙ simp (length-append, length-keyed, length-hex, flag-length nnp)
 
 pub length-of-sheet : (c : Credentials) → length (sheetText c)

@@ -4,6 +4,10 @@
 use format::Outcome;
 use libc::STDIN_FILENO;
 use libc::STDOUT_FILENO;
+ghost use mathlib.Core.Path.{_≡_};
+ghost use Prim.Native.Nat.{_+_};
+ghost use lib.ListN.{length};
+ghost use Rattle.format.specs.Longest.{longestPlan, longestReport};
 
 // Writes what the plan comes to: the report, which is in the buffer, or the refusal.
 fn answer(ran: Outcome, report: &[u8]) {
@@ -21,12 +25,18 @@ fn answer(ran: Outcome, report: &[u8]) {
     }
 }
 
-// The first buffer has one byte more than the longest plan: a longer text is cut there, and its fault is before the cut. The second is as long as
-// the longest report.
+// Reads the plan and answers it. The first buffer has one byte more than the longest plan: a longer text is cut there, and its fault is before the
+// cut. The second is as long as the longest report.
+fn run(text: &mut [u8], report: &mut [u8])
+    requires { ⌜ (length (now text) ≡ longestPlan + 1) × (length (now report) ≡ longestReport) ⌝ }
+{
+    let size = io::read_full(STDIN_FILENO, text);
+    let ran = plan::run_plan(&text[0..size], report);
+    answer(ran, report);
+}
+
 fn main() {
-    let mut plan = [0u8; 30684];
+    let mut text = [0u8; 30684];
     let mut report = [0u8; 8155];
-    let size = io::read_full(STDIN_FILENO, &mut plan);
-    let ran = plan::run_plan(&plan[0..size], &mut report);
-    answer(ran, &report);
+    run(&mut text, &mut report);
 }

@@ -1,0 +1,88 @@
+-- A plan that is as long as any, and its report, which is as long as any. Assumes nothing.
+use mathlib.Core.Path.{_≡_, refl, sym, ap, _∙_}
+use mathlib.Core.Bool.{false}
+use mathlib.Core.List.{List, [], _++_}
+use Prim.Native.Nat.{ℕ}
+use lib.ListN.{length, replicate, length-append}
+use Rattle.capabilities.specs.Sets.{outside}
+use Rattle.credentials.specs.Validity.{valid}
+use Rattle.credentials.specs.declared.Credentials.{Credentials}
+use Rattle.rules.specs.Fields.{number}
+use Rattle.rules.specs.Decoding.{known, decode}
+use Rattle.rules.specs.Call.{answer}
+use Rattle.rules.specs.Run.{Step, result, run, lastOf, left}
+use Rattle.format.specs.Line.{bytes, read, hexText, decimalOf, decimalText, keyedText, linesText, readHex, readDigits, readDecimal, afterKey, readLines}
+use Rattle.format.specs.Sheet.{idKinds, setKinds, flagKinds, sheetKinds, sheetText, readFront, readSheet}
+use Rattle.format.specs.Step.{stepKinds, readPairs, readStep}
+use Rattle.format.specs.Plan.{Plan, readSteps, readPlan}
+use Rattle.format.specs.Report.{resultKinds, resultText, resultsText, reportText, report, judged, verdict}
+use Rattle.format.specs.Longest.{longestPlan, longestReport}
+use Rattle.format.specs.Texts.{times}
+use Rattle.format.proofs.RoundTrip.{sheet-round-trip}
+
+-- ---- the plan, and its text
+
+-- IDs of ten digits, which are valid
+abbrev start : Credentials
+start =
+    record {
+      uids = record { real = 4294967294; effective = 4294967294; saved = 4294967294; filesystem = 4294967294 };
+      sets = record { permitted = 0; inheritable = 0; effective = 0; bounding = 0; ambient = 0 };
+      securebits = 0;
+      nnp = false;
+    }
+
+-- 99 is no call, and answers 22; an attribute of 48 digits
+abbrev step : Step
+step = record { number = 99; a = 0; b = 0; c = 0; attribute = replicate 24 0 }
+
+abbrev pub plan : Plan
+plan = record { start = start; steps = replicate 256 step }
+
+abbrev sheet : List ℕ
+sheet =
+    bytes "ruid=4294967294\neuid=4294967294\nsuid=4294967294\nfsuid=4294967294\n"
+    ++ bytes "permitted=0000000000000000\ninheritable=0000000000000000\neffective=0000000000000000\n"
+    ++ bytes "bounding=0000000000000000\nambient=0000000000000000\nsecurebits=00\nnnp=0\n"
+
+abbrev pub text : List ℕ
+text =
+    sheet
+    ++ times 256
+    (bytes "call=99\na=0000000000000000\nb=0000000000000000\nc=0000000000000000\n"
+    ++ bytes "attr=000000000000000000000000000000000000000000000000\n")
+
+pub text-read : readPlan text ≡ read plan []
+unfolding times readHex readDigits readDecimal afterKey readLines idKinds setKinds flagKinds sheetKinds readFront stepKinds readPairs readStep readSteps readPlan
+text-read = refl
+
+pub text-length : length text ≡ longestPlan
+unfolding times
+text-length = refl
+
+pub text-verdict : verdict text ≡ report (reportText plan)
+unfolding outside valid verdict
+text-verdict = ap judged text-read
+
+-- ---- its report
+
+-- the sheet of the start, by its round trip: the definition of decimal digits is not one to compute a number of ten digits with
+sheet-read : sheetText start ≡ sheet
+unfolding outside valid readHex readDigits readDecimal afterKey readLines idKinds setKinds flagKinds sheetKinds readFront readSheet
+sheet-read = sym (sheet-round-trip .read-written sheet start refl .0)
+
+-- 256 times 31 bytes
+results-length : length (resultsText (run start (plan .steps))) ≡ 7936
+unfolding outside valid known decode answer result run number hexText decimalOf decimalText keyedText linesText resultKinds resultText resultsText
+results-length = refl
+
+-- and the start's sheet of 219, since nothing changes
+start-left : left start (plan .steps) ≡ start
+unfolding outside valid known decode answer result run lastOf
+start-left = refl
+
+pub report-length : length (reportText plan) ≡ longestReport
+unfolding reportText
+report-length =
+    length-append (resultsText (run start (plan .steps))) (sheetText (left start (plan .steps)))
+    ∙ rw (results-length, start-left, sheet-read)
