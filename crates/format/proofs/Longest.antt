@@ -1,5 +1,5 @@
 -- How long sheets, steps, plans and reports are at most, and that reading a plan needs no more than one byte past that. Assumes nothing.
-use mathlib.Core.Path.{_≡_, refl, ap, _∙_}
+use mathlib.Core.Path.{_≡_, refl, sym, ap, _∙_}
 use mathlib.Core.Logic.{⊎-elim}
 use mathlib.Core.Bool.{Bool, true, false, cond}
 use mathlib.Core.List.{List, [], _∷_, _++_}
@@ -15,20 +15,21 @@ use Rattle.rules.specs.Answers.{code}
 use Rattle.rules.specs.Call.{answer}
 use Rattle.rules.specs.Run.{Step, Result, result, run, left}
 use Rattle.rules.proofs.Demand3.{demand-3}
+use Rattle.format.specs.declared.SheetReading.the-variants.{Sheet, Malformed}
 use Rattle.format.specs.Line.{linesText, Read, read, faultAt, readLines}
-use Rattle.format.specs.Sheet.{idKinds, setKinds, flagKinds, sheetKinds, sheetValues, sheetText, credentialsOf, readFront}
+use Rattle.format.specs.Sheet.{idKinds, setKinds, flagKinds, sheetKinds, sheetValues, sheetText, credentialsOf, readFront, wholeSheet, readSheet}
 use Rattle.format.specs.Step.{stepKinds, attributeKey, attributeText, stepText, readAttribute, stepOf, readStep}
 use Rattle.format.specs.Plan.{Plan, stepsText, planText, MOST-STEPS, readSteps, readPlan}
 use Rattle.format.specs.Report.{resultText, resultsText, reportText, report, malformed, invalid, judged, verdict}
 use Rattle.format.specs.RoundTrip.{Writable, WritableSheet, AllWritable}
-use Rattle.format.specs.Longest.{longestPlan, longestReport, Longest}
+use Rattle.format.specs.Longest.{longestSheet, longestPlan, longestReport, Longest}
 use Rattle.format.proofs.Alike.{Alike, mapped-alike, next-alike, lines-alike, attribute-alike}
 use Rattle.format.proofs.Decimals.{below-or-not}
 use Rattle.format.proofs.Lengths.{length-one, at-most, mostLines, length-lines, length-result-lines, length-attribute}
 use Rattle.format.proofs.Sheets as Sheets
 use Rattle.format.proofs.Steps as Steps
-use Rattle.format.proofs.RoundTrip.{plan-round-trip}
-use Rattle.format.proofs.Reached.{plan, text, text-read, text-length, text-verdict, report-length}
+use Rattle.format.proofs.RoundTrip.{sheet-round-trip, plan-round-trip}
+use Rattle.format.proofs.Reached.{start, sheet, sheet-read, sheet-length, plan, text, text-read, text-length, text-verdict, report-length}
 
 -- ---- sheets, steps and plans
 
@@ -189,12 +190,49 @@ cut text =
     ∙ ap verdict (take-append-drop 30684 text))
     (below-or-not (length text) 30684)
 
+-- ---- a sheet that is cut
+
+-- one byte more than a sheet has
+front-alike : (u more : List ℕ) → 220 ≤ length u → Alike more 1 (readFront u) (readFront (u ++ more))
+unfolding readFront
+front-alike u more h =
+    mapped-alike more 1 credentialsOf (readLines sheetKinds u) (readLines sheetKinds (u ++ more))
+    (lines-alike sheetKinds u more 1 (omega (arith, most-sheet, h)))
+
+-- text past the sheet is a fault, whatever it is
+whole-alike : (more : List ℕ) (r s : Read Credentials) → Alike more 1 r s → wholeSheet r ≡ wholeSheet s
+whole-alike more (read c []) (read d u) h = absurd (omega (arith, h .2))
+whole-alike more (read c (b ∷ t)) (read d u) h = sym (ap (λ (x : List ℕ). wholeSheet (read d x)) (h .1))
+whole-alike more (read c t) (faultAt line) h = absurd h
+whole-alike more (faultAt line) (read d u) h = absurd h
+whole-alike more (faultAt line) (faultAt other) h = ap Malformed h
+
+sheet-cut : (text : List ℕ) → readSheet (take 220 text) ≡ readSheet text
+unfolding readSheet
+sheet-cut text =
+    ⊎-elim
+    (λ (l : length text < 220). ap readSheet (take-all 220 text (omega (arith, l))))
+    (λ (l : 220 ≤ length text).
+    let u = take 220 text in
+    let more = drop 220 text in
+    whole-alike more (readFront u) (readFront (u ++ more)) (front-alike u more (omega (arith, length-take-le 220 text l)))
+    ∙ ap readSheet (take-append-drop 220 text))
+    (below-or-not (length text) 220)
+
+length-read : (text : List ℕ) (c : Credentials) → readSheet text ≡ Sheet c → length text ≤ longestSheet
+length-read text c e =
+    let r = sheet-round-trip .read-written text c e in
+    omega (arith, ap length (r .0), length-sheet c (Sheets.valid-writable c (r .1)))
+
 -- ---- the statement
 
--- how long plans and reports can be
+-- how long sheets, plans and reports can be
 pub longest : Longest
 longest =
     record {
+      sheets = length-read;
+      a-longest-sheet = (sheet, start, sheet-read, sheet-length);
+      sheet-cut = sheet-cut;
       plans = length-plan;
       a-longest-plan = (text, plan, [], text-read, text-length);
       reports = length-verdict;

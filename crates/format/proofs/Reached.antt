@@ -1,4 +1,4 @@
--- A plan that is as long as any, and its report, which is as long as any. Assumes nothing.
+-- A sheet, a plan and its report that are as long as any. Assumes nothing.
 use mathlib.Core.Path.{_≡_, refl, sym, ap, _∙_}
 use mathlib.Core.Bool.{false}
 use mathlib.Core.List.{List, [], _++_}
@@ -11,19 +11,20 @@ use Rattle.rules.specs.Fields.{number}
 use Rattle.rules.specs.Decoding.{known, decode}
 use Rattle.rules.specs.Call.{answer}
 use Rattle.rules.specs.Run.{Step, result, run, lastOf, left}
+use Rattle.format.specs.declared.SheetReading.the-variants.{Sheet}
 use Rattle.format.specs.Line.{bytes, read, hexText, decimalOf, decimalText, keyedText, linesText, readHex, readDigits, readDecimal, afterKey, readLines}
 use Rattle.format.specs.Sheet.{idKinds, setKinds, flagKinds, sheetKinds, sheetText, readFront, readSheet}
 use Rattle.format.specs.Step.{stepKinds, readPairs, readStep}
 use Rattle.format.specs.Plan.{Plan, readSteps, readPlan}
 use Rattle.format.specs.Report.{resultKinds, resultText, resultsText, reportText, report, judged, verdict}
-use Rattle.format.specs.Longest.{longestPlan, longestReport}
+use Rattle.format.specs.Longest.{longestSheet, longestPlan, longestReport}
 use Rattle.format.specs.Texts.{times}
 use Rattle.format.proofs.RoundTrip.{sheet-round-trip}
 
 -- ---- the plan, and its text
 
 -- IDs of ten digits, which are valid
-abbrev start : Credentials
+abbrev pub start : Credentials
 start =
     record {
       uids = record { real = 4294967294; effective = 4294967294; saved = 4294967294; filesystem = 4294967294 };
@@ -39,7 +40,7 @@ step = record { number = 99; a = 0; b = 0; c = 0; attribute = replicate 24 0 }
 abbrev pub plan : Plan
 plan = record { start = start; steps = replicate 256 step }
 
-abbrev sheet : List ℕ
+abbrev pub sheet : List ℕ
 sheet =
     bytes "ruid=4294967294\neuid=4294967294\nsuid=4294967294\nfsuid=4294967294\n"
     ++ bytes "permitted=0000000000000000\ninheritable=0000000000000000\neffective=0000000000000000\n"
@@ -51,6 +52,13 @@ text =
     ++ times 256
     (bytes "call=99\na=0000000000000000\nb=0000000000000000\nc=0000000000000000\n"
     ++ bytes "attr=000000000000000000000000000000000000000000000000\n")
+
+pub sheet-read : readSheet sheet ≡ Sheet start
+unfolding outside valid readHex readDigits readDecimal afterKey readLines idKinds setKinds flagKinds sheetKinds readFront readSheet
+sheet-read = refl
+
+pub sheet-length : length sheet ≡ longestSheet
+sheet-length = refl
 
 pub text-read : readPlan text ≡ read plan []
 unfolding times readHex readDigits readDecimal afterKey readLines idKinds setKinds flagKinds sheetKinds readFront stepKinds readPairs readStep readSteps readPlan
@@ -67,9 +75,8 @@ text-verdict = ap judged text-read
 -- ---- its report
 
 -- the sheet of the start, by its round trip: the definition of decimal digits is not one to compute a number of ten digits with
-sheet-read : sheetText start ≡ sheet
-unfolding outside valid readHex readDigits readDecimal afterKey readLines idKinds setKinds flagKinds sheetKinds readFront readSheet
-sheet-read = sym (sheet-round-trip .read-written sheet start refl .0)
+sheet-written : sheetText start ≡ sheet
+sheet-written = sym (sheet-round-trip .read-written sheet start sheet-read .0)
 
 -- 256 times 31 bytes
 results-length : length (resultsText (run start (plan .steps))) ≡ 7936
@@ -85,4 +92,4 @@ pub report-length : length (reportText plan) ≡ longestReport
 unfolding reportText
 report-length =
     length-append (resultsText (run start (plan .steps))) (sheetText (left start (plan .steps)))
-    ∙ rw (results-length, start-left, sheet-read)
+    ∙ rw (results-length, start-left, sheet-written)

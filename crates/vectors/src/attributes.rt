@@ -3,13 +3,14 @@ use crate::fields;
 use crate::fields::LARGEST_SIZE;
 use crate::output;
 use attribute::Reading;
+use codes::wide;
 
 // What the bytes of `read=` stand for.
 pub(crate) fn show_reading(row: &[u8]) {
     let bytes = fields::bytes(row, 0);
     let size = fields::size(row, 0);
     let answer = attribute::read(&bytes[0..size]);
-    output::decimal(b"code=", attribute::reading_code(answer));
+    output::decimal(b"code=", wide(attribute::reading_code(answer)));
     if let Reading::File(file) = answer {
         output::flag(b" attached=", file.attached);
         output::hex(b" permitted=", file.permitted, 1);
@@ -39,7 +40,7 @@ pub(crate) fn show_writing(row: &[u8]) {
 // The writer's answer, and the whole buffer afterwards.
 fn show_written(permitted: u64, inheritable: u64, effective: bool, buffer: &mut [u8]) {
     let answer = attribute::write(permitted, inheritable, effective, buffer);
-    output::decimal(b"code=", answer.code);
+    output::decimal(b"code=", wide(answer.code));
     output::decimal(b" length=", answer.length as u64);
     output::bytes(b" buffer=", buffer);
     output::text(b"\n");
