@@ -4,11 +4,9 @@ use mathlib.Core.Bool.{false}
 use mathlib.Core.List.{List, [], _++_}
 use Prim.Native.Nat.{ℕ}
 use lib.ListN.{length, replicate, length-append}
-use Rattle.capabilities.specs.Sets.{outside}
 use Rattle.credentials.specs.Validity.{valid}
 use Rattle.credentials.specs.declared.Credentials.{Credentials}
-use Rattle.rules.specs.Fields.{number}
-use Rattle.rules.specs.Decoding.{known, decode}
+use Rattle.rules.specs.Decoding.{decode}
 use Rattle.rules.specs.Call.{answer}
 use Rattle.rules.specs.Run.{Step, result, run, lastOf, left}
 use Rattle.format.specs.declared.SheetReading.the-variants.{Sheet}
@@ -54,7 +52,7 @@ text =
     ++ bytes "attr=000000000000000000000000000000000000000000000000\n")
 
 pub sheet-read : readSheet sheet ≡ Sheet start
-unfolding outside valid readHex readDigits readDecimal afterKey readLines idKinds setKinds flagKinds sheetKinds readFront readSheet
+unfolding valid readHex readDigits readDecimal afterKey readLines idKinds setKinds flagKinds sheetKinds readFront readSheet
 sheet-read = refl
 
 pub sheet-length : length sheet ≡ longestSheet
@@ -69,7 +67,7 @@ unfolding times
 text-length = refl
 
 pub text-verdict : verdict text ≡ report (reportText plan)
-unfolding outside valid verdict
+unfolding valid verdict
 text-verdict = ap judged text-read
 
 -- ---- its report
@@ -80,12 +78,12 @@ sheet-written = sym (sheet-round-trip .read-written sheet start sheet-read .0)
 
 -- 256 times 31 bytes
 results-length : length (resultsText (run start (plan .steps))) ≡ 7936
-unfolding outside valid known decode answer result run number hexText decimalOf decimalText keyedText linesText resultKinds resultText resultsText
+unfolding valid decode answer result run hexText decimalOf decimalText keyedText linesText resultKinds resultText resultsText
 results-length = refl
 
 -- and the start's sheet of 219, since nothing changes
 start-left : left start (plan .steps) ≡ start
-unfolding outside valid known decode answer result run lastOf
+unfolding valid decode answer result run lastOf
 start-left = refl
 
 pub report-length : length (reportText plan) ≡ longestReport

@@ -11,8 +11,8 @@ use lib.ListN.{length, getD, take, drop, length-append, drop-of-length-le}
 use lib.Seq.{sets, sets-eq, drop-cons, getD-take, length-take-le, length-sets}
 use Rattle.credentials.specs.Validity.{valid}
 use Rattle.credentials.specs.declared.Credentials.{Credentials}
-use Rattle.rules.specs.Run.{Step, Result, run}
-use Rattle.format.specs.Line.{decimalText, linesText, Read, read, faultAt, mapped}
+use Rattle.rules.specs.Run.{Result, run}
+use Rattle.format.specs.Line.{decimalText, linesText, read, faultAt}
 use Rattle.format.specs.Sheet.{idKinds, setKinds, flagKinds, sheetKinds, sheetText, readFront}
 use Rattle.format.specs.Plan.{readSteps, readPlan}
 use Rattle.format.specs.Report.{resultKinds, resultText, resultsText, reportText, report, malformed, invalid, verdict, outcome, buffer}
