@@ -177,18 +177,18 @@ judged-alike more (read p t) (faultAt line) h = absurd h
 judged-alike more (faultAt line) (read q u) h = absurd h
 judged-alike more (faultAt line) (faultAt other) h = ap malformed h
 
+-- what does not depend on the text after its first n bytes is the same of those alone
+cut-at : {A : Type 0} (f : List ℕ → A) (n : ℕ) → ((u more : List ℕ) → n ≤ length u → f u ≡ f (u ++ more)) → (text : List ℕ) → f (take n text) ≡ f text
+cut-at f n h text =
+    ⊎-elim
+    (λ (l : length text < n). ap f (take-all n text (omega (arith, l))))
+    (λ (l : n ≤ length text). h (take n text) (drop n text) (omega (arith, length-take-le n text l)) ∙ ap f (take-append-drop n text))
+    (below-or-not (length text) n)
+
 -- a text that is cut where that byte ends
 cut : (text : List ℕ) → verdict (take 30684 text) ≡ verdict text
 unfolding verdict
-cut text =
-    ⊎-elim
-    (λ (l : length text < 30684). ap verdict (take-all 30684 text (omega (arith, l))))
-    (λ (l : 30684 ≤ length text).
-    let u = take 30684 text in
-    let more = drop 30684 text in
-    judged-alike more (readPlan u) (readPlan (u ++ more)) (plan-alike u more (omega (arith, length-take-le 30684 text l)))
-    ∙ ap verdict (take-append-drop 30684 text))
-    (below-or-not (length text) 30684)
+cut = cut-at verdict 30684 (λ u more h. judged-alike more (readPlan u) (readPlan (u ++ more)) (plan-alike u more h))
 
 -- ---- a sheet that is cut
 
@@ -209,15 +209,7 @@ whole-alike more (faultAt line) (faultAt other) h = ap Malformed h
 
 sheet-cut : (text : List ℕ) → readSheet (take 220 text) ≡ readSheet text
 unfolding readSheet
-sheet-cut text =
-    ⊎-elim
-    (λ (l : length text < 220). ap readSheet (take-all 220 text (omega (arith, l))))
-    (λ (l : 220 ≤ length text).
-    let u = take 220 text in
-    let more = drop 220 text in
-    whole-alike more (readFront u) (readFront (u ++ more)) (front-alike u more (omega (arith, length-take-le 220 text l)))
-    ∙ ap readSheet (take-append-drop 220 text))
-    (below-or-not (length text) 220)
+sheet-cut = cut-at readSheet 220 (λ u more h. whole-alike more (readFront u) (readFront (u ++ more)) (front-alike u more h))
 
 length-read : (text : List ℕ) (c : Credentials) → readSheet text ≡ Sheet c → length text ≤ longestSheet
 length-read text c e =

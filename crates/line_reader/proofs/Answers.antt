@@ -23,15 +23,10 @@ use Rattle.line_reader.specs.Inside.{placed, lineAt, placedBytes, bytesA
 -- ---- one line
 
 module _ (key : List ℕ) (form : Form) (text : List ℕ) (p : Place) where
-  -- after a fault
-  pub number-none : p .fault ≡ true → numberAt key form text p ≡ record { value = 0; place = p }
+  -- what a line comes to, by whether there was a fault before it
+  pub number-by : (t : Bool) → p .fault ≡ t → numberAt key form text p ≡ cond t (record { value = 0; place = p }) (readNumber text p (readKeyed key form (drop (p .at) text)))
   unfolding numberAt
-  number-none h = ap (λ (t : Bool). cond t (record { value = 0; place = p }) (readNumber text p (readKeyed key form (drop (p .at) text)))) h
-
-  -- where there was none
-  number-some : p .fault ≡ false → numberAt key form text p ≡ readNumber text p (readKeyed key form (drop (p .at) text))
-  unfolding numberAt
-  number-some h = ap (λ (t : Bool). cond t (record { value = 0; place = p }) (readNumber text p (readKeyed key form (drop (p .at) text)))) h
+  number-by t h = ap (λ (x : Bool). cond x (record { value = 0; place = p }) (readNumber text p (readKeyed key form (drop (p .at) text)))) h
 
   onward-read : (r : Read ℕ) → onward p (placed text r) ≡ readNumber text p r
   onward-read (read v rest) = refl
@@ -39,7 +34,7 @@ module _ (key : List ℕ) (form : Form) (text : List ℕ) (p : Place) where
 
   pub number-there : (line : Line) → p .fault ≡ false → line ≡ lineAt key form text (p .at) → onward p line ≡ numberAt key form text p
   unfolding lineAt
-  number-there line h e = ap (onward p) e ∙ onward-read (readKeyed key form (drop (p .at) text)) ∙ sym (number-some h)
+  number-there line h e = ap (onward p) e ∙ onward-read (readKeyed key form (drop (p .at) text)) ∙ sym (number-by false h)
 
 -- ---- where the next line starts
 
@@ -61,7 +56,7 @@ lines-stay : (ks : List Kind) (text : List ℕ) (p : Place) → p .fault ≡ tru
 unfolding linesAt
 lines-stay [] text p h = refl
 lines-stay (k ∷ ks) text p h =
-    ap (λ (n : Number). linesAt ks text (n .place) .place) (number-none (keyText k) (k .form) text p h) ∙ lines-stay ks text p h
+    ap (λ (n : Number). linesAt ks text (n .place) .place) (number-by (keyText k) (k .form) text p true h) ∙ lines-stay ks text p h
 
 below-mapped : {A B : Type 0} (f : A → B) (n : ℕ) (r : Read A) → below n (below 1 (mapped f r)) ≡ mapped f (below (n + 1) r)
 below-mapped f n (read v t) = refl
@@ -115,7 +110,7 @@ lines-seen (k ∷ ks) text p h b =
     first-seen k ks text p (readKeyed (keyText k) (k .form) (drop (p .at) text)) refl (omega (arith, b)) (lines-seen ks text)
     ∙ sym (
     ap (λ (n : Number). seen (record { values = n .value ∷ linesAt ks text (n .place) .values; place = linesAt ks text (n .place) .place }) text)
-    (number-some (keyText k) (k .form) text p h)
+    (number-by (keyText k) (k .form) text p false h)
     )
 
 -- lines of two groups
@@ -207,13 +202,9 @@ lines-counted (k ∷ ks) text p b h =
 -- ---- an attribute's line
 
 module _ (key text : List ℕ) (p : Place) where
-  pub bytes-none : p .fault ≡ true → noAttribute p ≡ attributeAt key text p
+  pub bytes-by : (t : Bool) → p .fault ≡ t → attributeAt key text p ≡ cond t (noAttribute p) (readBytes text p (readAttribute key (drop (p .at) text)))
   unfolding attributeAt
-  bytes-none h = sym (ap (λ (t : Bool). cond t (noAttribute p) (readBytes text p (readAttribute key (drop (p .at) text)))) h)
-
-  bytes-some : p .fault ≡ false → attributeAt key text p ≡ readBytes text p (readAttribute key (drop (p .at) text))
-  unfolding attributeAt
-  bytes-some h = ap (λ (t : Bool). cond t (noAttribute p) (readBytes text p (readAttribute key (drop (p .at) text)))) h
+  bytes-by t h = ap (λ (x : Bool). cond x (noAttribute p) (readBytes text p (readAttribute key (drop (p .at) text)))) h
 
   found-read : (r : Read (List ℕ)) → placedBytes text r .found ≡ true
       → _≡_ {A = Attribute} (record { place = pastLine p (placedBytes text r .next); size = placedBytes text r .size; bytes = placedBytes text r .bytes }) (readBytes text p r)
@@ -229,12 +220,12 @@ module _ (key text : List ℕ) (p : Place) where
   unfolding bytesAt
   bytes-found b h e f =
       let g = sym (ap (λ (x : Bytes). x .found) e) ∙ f in
-      ap (λ (x : Bytes). record { place = pastLine p (x .next); size = x .size; bytes = x .bytes }) e ∙ found-read (readAttribute key (drop (p .at) text)) g ∙ sym (bytes-some h)
+      ap (λ (x : Bytes). record { place = pastLine p (x .next); size = x .size; bytes = x .bytes }) e ∙ found-read (readAttribute key (drop (p .at) text)) g ∙ sym (bytes-by false h)
 
   pub bytes-missed : (b : Bytes) → p .fault ≡ false → b ≡ bytesAt key text (p .at) → b .found ≡ false → noAttribute (atFault p) ≡ attributeAt key text p
   unfolding bytesAt
   bytes-missed b h e f =
-      missed-read (readAttribute key (drop (p .at) text)) (sym (ap (λ (x : Bytes). x .found) e) ∙ f) ∙ sym (bytes-some h)
+      missed-read (readAttribute key (drop (p .at) text)) (sym (ap (λ (x : Bytes). x .found) e) ∙ f) ∙ sym (bytes-by false h)
 
 -- what an attribute that was read tells
 pub record Told (a : Attribute) (key text : List ℕ) (p : Place) : Type 0 where
@@ -259,9 +250,9 @@ module _ (key text : List ℕ) (p : Place) where
 
   told-by : (t : Bool) → p .fault ≡ t → (a : Attribute) → a ≡ attributeAt key text p → a .place .fault ≡ false → Told a key text p
   told-by true g a e h =
-      absurd (true≢false (sym g ∙ ap (λ (x : Attribute). x .place .fault) (bytes-none key text p g ∙ sym e) ∙ h))
+      absurd (true≢false (sym g ∙ ap (λ (x : Attribute). x .place .fault) (sym (bytes-by key text p true g) ∙ sym e) ∙ h))
   told-by false g a e h =
-      let f = e ∙ bytes-some key text p g in
+      let f = e ∙ bytes-by key text p false g in
       subst (λ (x : Attribute). Told x key text p) (sym f)
       (told (readAttribute key (drop (p .at) text)) refl g (sym (ap (λ (x : Attribute). x .place .fault) f) ∙ h))
 
@@ -277,11 +268,11 @@ module _ (key text : List ℕ) (p : Place) where
   pub attribute-missed : (a : Attribute) → a ≡ attributeAt key text p → p .fault ≡ false → a .place .fault ≡ true
       → (readAttribute key (drop (p .at) text) ≡ fault) × (a .place ≡ atFault p)
   attribute-missed a e g h =
-      let f = e ∙ bytes-some key text p g in
+      let f = e ∙ bytes-by key text p false g in
       let r = readAttribute key (drop (p .at) text) in
       let m = missed r (key-in-line key (readPairs 24 []) (drop (p .at) text) (pairs-in-line 24 [])) (sym (ap (λ (x : Attribute). x .place .fault) f) ∙ h) in
       (m .0, ap (λ (x : Attribute). x .place) f ∙ m .1)
 
   -- after a fault the place stays
   pub attribute-skipped : (a : Attribute) → a ≡ attributeAt key text p → p .fault ≡ true → a .place ≡ p
-  attribute-skipped a e g = ap (λ (x : Attribute). x .place) (e ∙ sym (bytes-none key text p g))
+  attribute-skipped a e g = ap (λ (x : Attribute). x .place) (e ∙ bytes-by key text p true g)

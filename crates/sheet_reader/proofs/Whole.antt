@@ -13,6 +13,7 @@ use Rattle.format.specs.Sheet.{idKinds, setKinds, flagKinds, sheetKinds, sheetT
 use Rattle.format.specs.declared.SheetReading.the-variants as reading
 use Rattle.format.proofs.Sheets.{front-written}
 use Rattle.line_reader.proofs.Answers.{rest-at, some-line}
+use Rattle.sheet_reader.specs.declared.Front.{Front}
 use Rattle.sheet_reader.specs.declared.Front.the-variants.{Sheet, Invalid, Fault}
 use Rattle.sheet_reader.specs.Positions.{placedFront, frontOf}
 
@@ -38,30 +39,26 @@ module _ (text : List ℕ) where
       let s = rest-at text (sheetText c) rest 0 (k .0) (sheet-some c) in
       record { is = e ∙ ap (read c) (sym s ∙ ap (λ (n : ℕ). drop n text) q); within = omega (arith, q); validity = h }
 
-  -- which case it is decides on validity
-  cased : (t : Bool) (d : Credentials) (n : ℕ) (c : Credentials) (past : ℕ) → cond t (Sheet d n) (Invalid d n) ≡ Sheet c past → (t ≡ true) × (d ≡ c) × (n ≡ past)
-  cased true d n c past h = (refl, cc, cc)
-  cased false d n c past h = let z : _≡_ {A = ℕ} 0 1 = cc in absurd (omega arith)
+  -- credentials at the front of a text, valid or not
+  abbrev fronted : Bool → Credentials → ℕ → Front
+  fronted v c past = cond v (Sheet c past) (Invalid c past)
 
-  cased-not : (t : Bool) (d : Credentials) (n : ℕ) (c : Credentials) (past : ℕ) → cond t (Sheet d n) (Invalid d n) ≡ Invalid c past → (t ≡ false) × (d ≡ c) × (n ≡ past)
-  cased-not true d n c past h = let z : _≡_ {A = ℕ} 0 1 = cc in absurd (omega arith)
-  cased-not false d n c past h = (refl, cc, cc)
+  -- which of the two it is tells which they are
+  cased : (t v : Bool) (d : Credentials) (n : ℕ) (c : Credentials) (past : ℕ) → fronted t d n ≡ fronted v c past → (t ≡ v) × (d ≡ c) × (n ≡ past)
+  cased true true d n c past h = (refl, cc, cc)
+  cased true false d n c past h = let z : _≡_ {A = ℕ} 0 1 = cc in absurd (omega arith)
+  cased false true d n c past h = let z : _≡_ {A = ℕ} 0 1 = cc in absurd (omega arith)
+  cased false false d n c past h = (refl, cc, cc)
 
-  cased-fault : {B : Type 0} (t : Bool) (d : Credentials) (n line : ℕ) → cond t (Sheet d n) (Invalid d n) ≡ Fault line → B
+  cased-fault : {B : Type 0} (t : Bool) (d : Credentials) (n line : ℕ) → fronted t d n ≡ Fault line → B
   cased-fault true d n line h = let z : _≡_ {A = ℕ} 0 1 = cc in absurd (omega arith)
   cased-fault false d n line h = let z : _≡_ {A = ℕ} 0 1 = cc in absurd (omega arith)
 
-  valid-told : (r : Read Credentials) (c : Credentials) (past : ℕ) → readFront text ≡ r → placedFront text r ≡ Sheet c past → Told text c past true
-  valid-told (read d rest) c past e h =
-      let t = cased (valid d) d (length text - length rest) c past h in
-      subst (λ (x : Credentials). Told text x past true) (t .1) (read-told d rest past true e (t .2) (t .0))
-  valid-told (faultAt line) c past e h = let z : _≡_ {A = ℕ} 0 1 = cc in absurd (omega arith)
-
-  invalid-told : (r : Read Credentials) (c : Credentials) (past : ℕ) → readFront text ≡ r → placedFront text r ≡ Invalid c past → Told text c past false
-  invalid-told (read d rest) c past e h =
-      let t = cased-not (valid d) d (length text - length rest) c past h in
-      subst (λ (x : Credentials). Told text x past false) (t .1) (read-told d rest past false e (t .2) (t .0))
-  invalid-told (faultAt line) c past e h = let z : _≡_ {A = ℕ} 0 1 = cc in absurd (omega arith)
+  told : (r : Read Credentials) (v : Bool) (c : Credentials) (past : ℕ) → readFront text ≡ r → placedFront text r ≡ fronted v c past → Told text c past v
+  told (read d rest) v c past e h =
+      let t = cased (valid d) v d (length text - length rest) c past h in
+      subst (λ (x : Credentials). Told text x past v) (t .1) (read-told d rest past v e (t .2) (t .0))
+  told (faultAt line) v c past e h = cased-fault v c past line (sym h)
 
   fault-told : (r : Read Credentials) (line : ℕ) → placedFront text r ≡ Fault line → r ≡ faultAt line
   fault-told (read d rest) line h = cased-fault (valid d) d (length text - length rest) line h
@@ -70,12 +67,12 @@ module _ (text : List ℕ) where
   -- a text that begins with a sheet
   pub front-told : (c : Credentials) (past : ℕ) → frontOf text ≡ Sheet c past → Told text c past true
   unfolding frontOf
-  front-told c past h = valid-told (readFront text) c past refl h
+  front-told c past h = told (readFront text) true c past refl h
 
   -- with one that is not valid
   pub front-told-invalid : (c : Credentials) (past : ℕ) → frontOf text ≡ Invalid c past → Told text c past false
   unfolding frontOf
-  front-told-invalid c past h = invalid-told (readFront text) c past refl h
+  front-told-invalid c past h = told (readFront text) false c past refl h
 
   -- and one that does not
   pub front-fault : (line : ℕ) → frontOf text ≡ Fault line → readFront text ≡ faultAt line

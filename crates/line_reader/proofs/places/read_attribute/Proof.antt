@@ -2,7 +2,7 @@
 use mathlib.Core.Path.{sym, ap, _∙_}
 use Rattle.line_reader.specs.declared.Attribute.{Attribute}
 use Rattle.line_reader.specs.Positions.{noAttribute}
-use Rattle.line_reader.proofs.Answers.{bytes-none, bytes-found, bytes-missed}
+use Rattle.line_reader.proofs.Answers.{bytes-by, bytes-found, bytes-missed}
 use borrow.Author.Needs.{needs}
 use Rattle.line_reader.proofs.places.read_attribute.Statement.{statement}
 use Rattle.line_reader.proofs.places.read_attribute.Tie as tie
@@ -11,7 +11,7 @@ no-attribute-requires : tie.Need-no-attribute-requires
 no-attribute-requires c κs = tt
 
 returns : tie.Need-returns
-returns c = c .no-attribute .ensures ∙ bytes-none _ _ _ (c .before .if1 .taken)
+returns c = c .no-attribute .ensures ∙ sym (bytes-by _ _ _ _ (c .before .if1 .taken))
 
 bytes-line-requires : tie.Need-bytes-line-requires
 bytes-line-requires c κs = tt

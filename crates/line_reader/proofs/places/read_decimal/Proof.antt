@@ -1,12 +1,12 @@
 -- `line_reader::places::read_decimal` meets its contract. Assumes nothing.
 use mathlib.Core.Path.{sym, _∙_}
-use Rattle.line_reader.proofs.Answers.{number-none, number-there}
+use Rattle.line_reader.proofs.Answers.{number-by, number-there}
 use borrow.Author.Needs.{needs}
 use Rattle.line_reader.proofs.places.read_decimal.Statement.{statement}
 use Rattle.line_reader.proofs.places.read_decimal.Tie as tie
 
 returns : tie.Need-returns
-returns c = sym (number-none _ _ _ _ (c .if1 .taken))
+returns c = sym (number-by _ _ _ _ _ (c .if1 .taken))
 
 decimal-line-requires : tie.Need-decimal-line-requires
 decimal-line-requires c κs = tt

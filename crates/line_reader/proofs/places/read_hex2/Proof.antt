@@ -1,12 +1,12 @@
 -- `line_reader::places::read_hex2` meets its contract. Assumes nothing.
 use mathlib.Core.Path.{sym, _∙_}
-use Rattle.line_reader.proofs.Answers.{number-none, number-there}
+use Rattle.line_reader.proofs.Answers.{number-by, number-there}
 use borrow.Author.Needs.{needs}
 use Rattle.line_reader.proofs.places.read_hex2.Statement.{statement}
 use Rattle.line_reader.proofs.places.read_hex2.Tie as tie
 
 returns : tie.Need-returns
-returns c = sym (number-none _ _ _ _ (c .if1 .taken))
+returns c = sym (number-by _ _ _ _ _ (c .if1 .taken))
 
 hex-line-requires : tie.Need-hex-line-requires
 hex-line-requires c κs = search needs
