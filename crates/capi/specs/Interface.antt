@@ -5,17 +5,15 @@ use mathlib.Core.Bool.{Bool, cond, _&&_}
 use mathlib.Core.List.{List, [], _∷_, _++_}
 use lib.Dec.{eqb, leb}
 use lib.ListN.{length, getD, drop}
-use Rattle.attribute.specs.Reader.{readingCode}
 use Rattle.attribute.specs.Writer.{refused, written, bufferAfter}
 use Rattle.attribute.specs.declared.FileCapabilities.{FileCapabilities}
 use Rattle.attribute.specs.declared.Reading.{Reading}
 use Rattle.attribute.specs.declared.Reading.the-variants.{File, Unreadable}
 use Rattle.attribute.specs.declared.Written.{Written}
-use Rattle.credentials.specs.Validity.{valid}
 use Rattle.rules.specs.Fields.{number}
 use Rattle.format.specs.declared.SheetReading.{SheetReading}
 use Rattle.format.specs.declared.SheetReading.the-variants.{Sheet, Malformed, Invalid}
-use Rattle.format.specs.Sheet.{sheetKinds, sheetValues, credentialsOf, sheetCode, sheetLine, sheetAnswer, sheetBuffer}
+use Rattle.format.specs.Sheet.{sheetKinds, sheetValues, credentialsOf, sheetAnswer, sheetBuffer}
 
 -- the number that comes back: the code times 4294967296, and a line, a length or a count
 unfoldable pub joined : ℕ → ℕ → ℕ

@@ -7,7 +7,7 @@ ghost use mathlib.Core.List.{_++_};
 ghost use Prim.Native.Nat.{_≤_};
 ghost use lib.ListN.{length, drop};
 ghost use Rattle.attribute.specs.Reader.{reading};
-ghost use Rattle.format.specs.Sheet.{sheetKinds, credentialsOf, readSheet, sheetValues};
+ghost use Rattle.format.specs.Sheet.{credentialsOf, readSheet, sheetValues};
 ghost use Rattle.format.specs.Report.{verdict, outcome, buffer, cNumber};
 ghost use Rattle.capi.specs.Interface.{areValues, bitBuffer, bitWritten, fileGiven, fileNumber, fileValues, joined, sheetGiven, sheetNumber, valuesBuffer, valuesWritten, writtenNumber};
 use attribute::FileCapabilities;

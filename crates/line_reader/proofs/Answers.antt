@@ -7,7 +7,7 @@ use mathlib.Core.Bool.{Bool, true, false, cond, true≢false}
 use Prim.Native.Nat.{ℕ, _+_, _-_, _%_, _^_, _<_, _≤_}
 use lib.ListN.{length, take, drop, replicate, length-append, length-drop, length-replicate}
 use lib.Seq.{drop-append-seam, take-append-seam, drop-drop}
-use Rattle.format.specs.Line.{Form, Kind, keyText, valueText, keyedText, Read, read, faultAt, fault, below, next, mapped, newline, readValue, readKeyed, readLine, readLines}
+use Rattle.format.specs.Line.{Form, Kind, keyText, valueText, keyedText, Read, read, faultAt, fault, below, next, mapped, newline, readValue, readKeyed, readLines}
 use Rattle.format.specs.Step.{pairsText, readPairs, readAttribute}
 use Rattle.format.proofs.ReadWritten.{keyed-written}
 use Rattle.format.proofs.Pairs.{attribute-written}

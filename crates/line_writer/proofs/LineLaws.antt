@@ -12,7 +12,7 @@ use Rattle.format.specs.Line.{bytes, Kind, digit, hexText, decimalText, keyedTe
 use Rattle.format.proofs.Decimals.{decimal-one, decimal-more}
 use Rattle.format.proofs.Lengths.{length-hex, length-more, at-most, length-keyed}
 use Rattle.line_writer.specs.Positions.{written, writtenTo}
-use Rattle.line_writer.specs.Inside.{Put, linesPut}
+use Rattle.line_writer.specs.Inside.{linesPut}
 
 pub sets-append : (xs ys l : List ℕ) (i : ℕ) → sets l i (xs ++ ys) ≡ sets (sets l i xs) (i + length xs) ys
 sets-append [] ys l i = rw (add-zero i)

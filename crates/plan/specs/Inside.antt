@@ -1,7 +1,7 @@
 -- How the values of private functions stand for those of the format and the rules; no public contract cites these. Assumes nothing.
 use Prim.Native.Nat.{ℕ, _≤_}
 use mathlib.Core.List.{List, [], _∷_, _++_}
-use lib.ListN.{length, take, drop}
+use lib.ListN.{take, drop}
 use Rattle.credentials.specs.declared.Credentials.{Credentials}
 use Rattle.rules.specs.Run.{Step, Result, run, left}
 use Rattle.format.specs.Line.{linesText, Read, read, faultAt, mapped}

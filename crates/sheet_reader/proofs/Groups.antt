@@ -3,14 +3,14 @@ use native.Mathlib.Omega.{arith}
 use mathlib.Core.Path.{_≡_, refl, sym, ap, _∙_}
 use mathlib.Core.Bool.{Bool, true, false, cond}
 use mathlib.Core.List.{List, [], _∷_, _++_}
-use Prim.Native.Nat.{ℕ, _+_, _-_, _<_, _≤_, _^_}
+use Prim.Native.Nat.{ℕ, _+_, _-_, _≤_}
 use lib.Dec.{eqb}
 use lib.ListN.{length, drop}
 use Rattle.credentials.specs.Validity.{valid}
 use Rattle.credentials.specs.declared.Ids.{Ids}
 use Rattle.credentials.specs.declared.Sets.{Sets}
 use Rattle.credentials.specs.declared.Credentials.{Credentials}
-use Rattle.format.specs.Line.{Read, read, faultAt, mapped, readLines}
+use Rattle.format.specs.Line.{Read, read, faultAt, mapped}
 use Rattle.format.specs.Sheet.{idKinds, setKinds, flagKinds, sheetKinds, credentialsOf, readFront, idValues, setValues}
 use Rattle.line_reader.specs.declared.Place.{Place}
 use Rattle.line_reader.specs.Inside.{from, Values, linesAt, seen}

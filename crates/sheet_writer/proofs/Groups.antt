@@ -1,13 +1,11 @@
 -- Laws of the sheet's three groups of lines, written one after the other. Assumes nothing.
 use native.Mathlib.Omega.{arith}
-use native.Mathlib.Nat.{add-assoc}
 use mathlib.Core.Path.{_≡_, refl, sym, ap, _∙_}
 use mathlib.Core.List.{List, [], _∷_, _++_, append-assoc, append-nil}
 use mathlib.Core.Bool.{Bool, true, false}
-use Prim.Native.Nat.{ℕ, _+_, _-_, _≤_}
+use Prim.Native.Nat.{ℕ, _+_, _-_}
 use lib.ListN.{length, length-append}
 use lib.Seq.{sets}
-use borrow.Author.Tests.{le-leb}
 use Rattle.credentials.specs.declared.Ids.{Ids}
 use Rattle.credentials.specs.declared.Sets.{Sets}
 use Rattle.credentials.specs.declared.Credentials.{Credentials}

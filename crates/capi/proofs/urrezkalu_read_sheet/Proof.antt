@@ -1,5 +1,5 @@
 -- `capi::urrezkalu_read_sheet` meets its contract. Assumes nothing.
-use mathlib.Core.Path.{refl, sym, _∙_}
+use mathlib.Core.Path.{sym, _∙_}
 use Rattle.format.specs.Sheet.{sheetValues}
 use Rattle.capi.proofs.Answers.{given, no-room, sheet-refused}
 use borrow.Author.Needs.{needs}

@@ -1,7 +1,6 @@
 -- `sheet_reader::read_front` meets its contract. Assumes nothing.
 use mathlib.Core.Path.{sym, _∙_}
 use Rattle.sheet_reader.proofs.Groups.{ids-at-fault, sets-at-fault, front-at-fault, front-valid, front-invalid}
-use borrow.Author.Needs.{needs}
 use Rattle.sheet_reader.proofs.read_front.Statement.{statement}
 use Rattle.sheet_reader.proofs.read_front.Tie as tie
 

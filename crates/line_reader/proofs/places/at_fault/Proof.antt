@@ -1,5 +1,4 @@
 -- `line_reader::places::at_fault` meets its contract. Assumes nothing.
-use borrow.Author.Needs.{needs}
 use Rattle.line_reader.proofs.places.at_fault.Statement.{statement}
 use Rattle.line_reader.proofs.places.at_fault.Tie as tie
 

@@ -1,5 +1,4 @@
 -- `line_reader::places::onward` meets its contract. Assumes nothing.
-use Rattle.line_reader.specs.Inside.{onward}
 use borrow.Author.Needs.{needs}
 use Rattle.line_reader.proofs.places.onward.Statement.{statement}
 use Rattle.line_reader.proofs.places.onward.Tie as tie

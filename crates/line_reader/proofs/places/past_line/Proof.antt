@@ -1,5 +1,4 @@
 -- `line_reader::places::past_line` meets its contract. Assumes nothing.
-use borrow.Author.Needs.{needs}
 use Rattle.line_reader.proofs.places.past_line.Statement.{statement}
 use Rattle.line_reader.proofs.places.past_line.Tie as tie
 

@@ -1,9 +1,6 @@
 -- `line_reader::places::read_attribute` meets its contract. Assumes nothing.
-use mathlib.Core.Path.{sym, ap, _∙_}
-use Rattle.line_reader.specs.declared.Attribute.{Attribute}
-use Rattle.line_reader.specs.Positions.{noAttribute}
+use mathlib.Core.Path.{sym, _∙_}
 use Rattle.line_reader.proofs.Answers.{bytes-by, bytes-found, bytes-missed}
-use borrow.Author.Needs.{needs}
 use Rattle.line_reader.proofs.places.read_attribute.Statement.{statement}
 use Rattle.line_reader.proofs.places.read_attribute.Tie as tie
 

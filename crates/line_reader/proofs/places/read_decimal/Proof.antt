@@ -1,7 +1,6 @@
 -- `line_reader::places::read_decimal` meets its contract. Assumes nothing.
 use mathlib.Core.Path.{sym, _∙_}
 use Rattle.line_reader.proofs.Answers.{number-by, number-there}
-use borrow.Author.Needs.{needs}
 use Rattle.line_reader.proofs.places.read_decimal.Statement.{statement}
 use Rattle.line_reader.proofs.places.read_decimal.Tie as tie
 

@@ -8,7 +8,7 @@ use lib.ListN.{length, take, drop, getD, length-append}
 use lib.Seq.{sets}
 use Rattle.format.specs.Line.{linesText}
 use Rattle.format.specs.Report.{resultKinds}
-use Rattle.line_writer.specs.Inside.{Put, linesPut}
+use Rattle.line_writer.specs.Inside.{Put}
 use Rattle.line_writer.proofs.LineLaws.{lines-put}
 use Rattle.plan.specs.Inside.{answersText}
 use Rattle.plan.proofs.ReportLaws.{lines-step, lines-end, put-lines}
