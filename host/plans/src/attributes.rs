@@ -5,12 +5,15 @@ use crate::sets;
 use second::Credentials;
 
 /// The longest attribute that a plan can hold.
-pub(crate) const LONGEST: usize = 24;
+const LONGEST: usize = 24;
+/// The longest that the reader by itself is given, but for a few.
+const LONGEST_ALONE: usize = 32;
 
-struct File {
-    permitted: u64,
-    inheritable: u64,
-    effective: bool,
+/// What an attribute says.
+pub(crate) struct File {
+    pub(crate) permitted: u64,
+    pub(crate) inheritable: u64,
+    pub(crate) effective: bool,
 }
 
 /// An attribute for a launch by a thread that holds about what `guess` says: none, a good one, or an unreadable one.
@@ -19,7 +22,18 @@ pub(crate) fn any(random: &mut Random, guess: &Credentials) -> Vec<u8> {
         0..=5 => Vec::new(),
         6..=13 => version_2(&file(random, guess)),
         14 | 15 => version_1(&file(random, guess)),
-        _ => unreadable(random, guess),
+        _ => unreadable(random, guess, LONGEST),
+    }
+}
+
+/// An attribute for the reader by itself, which takes any number of bytes.
+pub(crate) fn alone(random: &mut Random, guess: &Credentials) -> Vec<u8> {
+    match random.below(20) {
+        0 | 1 => Vec::new(),
+        2..=6 => version_2(&file(random, guess)),
+        7..=9 => version_1(&file(random, guess)),
+        10 => far_too_long(random, guess),
+        _ => unreadable(random, guess, LONGEST_ALONE),
     }
 }
 
@@ -33,8 +47,8 @@ pub(crate) fn good(random: &mut Random, guess: &Credentials) -> Vec<u8> {
     }
 }
 
-// Sets about the thread's inheritable and bounding sets, so that the launch is refused for a missing capability about as often as not.
-fn file(random: &mut Random, guess: &Credentials) -> File {
+/// Sets about the thread's inheritable and bounding sets, so that a launch is refused for a missing capability about as often as not.
+pub(crate) fn file(random: &mut Random, guess: &Credentials) -> File {
     let effective = random.one_in(2);
     if random.one_in(6) {
         return File { permitted: 0, inheritable: 0, effective };
@@ -78,12 +92,21 @@ fn joined(words: &[u32]) -> Vec<u8> {
     words.iter().flat_map(|word| word.to_le_bytes()).collect()
 }
 
+// A good attribute with so many zeros behind it that its length is right in its low 8 or 16 bits.
+fn far_too_long(random: &mut Random, guess: &Credentials) -> Vec<u8> {
+    let file = file(random, guess);
+    let mut bytes = if random.one_in(2) { version_1(&file) } else { version_2(&file) };
+    let more = random.pick(&[256, 65_536]);
+    bytes.resize(bytes.len() + more, 0);
+    bytes
+}
+
 // An attribute that cannot be read, or (among random bytes) hardly ever can.
-fn unreadable(random: &mut Random, guess: &Credentials) -> Vec<u8> {
+fn unreadable(random: &mut Random, guess: &Credentials, longest: usize) -> Vec<u8> {
     let mut bytes = if random.one_in(3) { version_1(&file(random, guess)) } else { version_2(&file(random, guess)) };
     match random.below(11) {
         // A good front, cut or lengthened with zeros.
-        0..=3 => bytes.resize(random.below(LONGEST + 1), 0),
+        0..=3 => bytes.resize(random.below(longest + 1), 0),
         // The other version's length.
         4 => bytes.resize(if bytes.len() == 12 { 20 } else { 12 }, 0),
         // The other version's revision.
@@ -104,7 +127,7 @@ fn unreadable(random: &mut Random, guess: &Credentials) -> Vec<u8> {
             bytes[word + above / 8] |= 1 << (above % 8);
         }
         _ => {
-            let length = random.below(LONGEST + 1);
+            let length = random.below(longest + 1);
             bytes = random.bytes(length);
         }
     }
@@ -133,5 +156,24 @@ mod tests {
             seen[any(&mut random, &guess).len()] = true;
         }
         assert_eq!(seen, [true; LONGEST + 1]);
+    }
+
+    #[test]
+    fn every_length_is_made_for_the_reader_by_itself_and_some_are_far_too_long() {
+        let mut random = Random::new(3);
+        let guess = crate::starts::valid(&mut random);
+        let mut seen = [false; LONGEST_ALONE + 1];
+        let mut longer = Vec::new();
+        for _ in 0..5000 {
+            let length = alone(&mut random, &guess).len();
+            match seen.get_mut(length) {
+                Some(seen) => *seen = true,
+                None => longer.push(length),
+            }
+        }
+        assert_eq!(seen, [true; LONGEST_ALONE + 1]);
+        longer.sort_unstable();
+        longer.dedup();
+        assert_eq!(longer, [256 + 12, 256 + 20, 65_536 + 12, 65_536 + 20]);
     }
 }

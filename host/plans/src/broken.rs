@@ -11,6 +11,7 @@ use crate::random::Random;
 use crate::starts::{self, Flaw};
 use crate::{with_steps, Generated, Kind, Plan, MOST_STEPS};
 use line::{Form, SHEET_LINES, STEP_LINES};
+use second::Credentials;
 
 /// The line of refusal 70 for a 257th step.
 const LINE_OF_STEP_257: usize = SHEET_LINES + STEP_LINES * MOST_STEPS + 1;
@@ -25,14 +26,49 @@ pub(crate) fn broken(random: &mut Random) -> Generated {
     Generated { text, kind: Kind::Broken { fault, line, valid } }
 }
 
-// A plan to put a fault into, now and then of the most steps. Its start may be invalid, for the fault comes before that.
-fn plan_to_break(random: &mut Random, fault: Fault, valid: bool) -> Plan {
-    let start = if valid {
+/// A sheet with some fault.
+pub(crate) fn broken_sheet(random: &mut Random) -> Generated {
+    let fault = fault_of_a_sheet(random);
+    let valid = !random.one_in(6);
+    let sheet = Plan { start: start_to_break(random, valid), steps: Vec::new() }.text();
+    let (text, line) = if fault == Fault::Appended && random.one_in(4) {
+        (sheet.repeat(2), Some(SHEET_LINES + 1))
+    } else {
+        broken_by(random, fault, sheet)
+    };
+    let line = line.map(|line| line as u32);
+    Generated { text, kind: Kind::Broken { fault, line, valid } }
+}
+
+// More often than the rest: the cuts, for every line is to be cut in and before, and text past the sheet.
+fn fault_of_a_sheet(random: &mut Random) -> Fault {
+    match random.below(12) {
+        0 => Fault::CutInLine,
+        1 => Fault::CutBetweenLines,
+        2 => Fault::Appended,
+        3 => random.pick(&[Fault::Noise, Fault::SheetThenNoise]),
+        _ => loop {
+            let fault = random.pick(&Fault::ALL);
+            if fault.is_in_sheets() {
+                break fault;
+            }
+        },
+    }
+}
+
+// The start may be invalid, for the fault comes before that.
+fn start_to_break(random: &mut Random, valid: bool) -> Credentials {
+    if valid {
         starts::valid(random)
     } else {
         let flaw = random.pick(&Flaw::ALL);
         starts::flawed(random, flaw)
-    };
+    }
+}
+
+// A plan to put a fault into, now and then of the most steps.
+fn plan_to_break(random: &mut Random, fault: Fault, valid: bool) -> Plan {
+    let start = start_to_break(random, valid);
     let count = match fault {
         Fault::TooManySteps => random.pick(&[257, 257, 258, 300]),
         Fault::Appended if random.one_in(4) => MOST_STEPS,

@@ -1,12 +1,14 @@
-//! Plans and broken plan texts, each made from one seed.
+//! Plans, sheets, attributes and broken texts, each made from one seed.
 //!
 //! [`generated`] gives the text of any kind: plans that run, with the calls and operands that the rules tell apart; plans whose start is
-//! invalid; texts that are no plans. [`measured`] gives plans of a fixed number of steps, to take times by. The same seed gives the same text.
+//! invalid; texts that are no plans. [`input`] gives what the readers and writers of sheets and attributes are asked. [`measured`] gives plans
+//! of a fixed number of steps, to take times by. The same seed gives the same.
 
 #![deny(missing_docs)]
 
 mod attributes;
 mod broken;
+mod inputs;
 mod random;
 mod sets;
 mod starts;
@@ -14,6 +16,7 @@ mod steps;
 mod text;
 
 pub use broken::Fault;
+pub use inputs::{input, values, Input, Operands, VALUES};
 pub use text::{write_result, write_sheet, write_step};
 
 use random::Random;

@@ -96,4 +96,9 @@ impl Fault {
         Fault::Noise,
         Fault::SheetThenNoise,
     ];
+
+    /// Whether a sheet by itself can have the fault: it has no attribute and no steps.
+    pub fn is_in_sheets(self) -> bool {
+        !matches!(self, Fault::LongAttribute | Fault::TooManySteps)
+    }
 }
