@@ -2,15 +2,16 @@
 
 /// How the program is called.
 pub const USAGE: &str = "\
-compare [--count N] [--seed S] [--threads T] [--table]    compares the proved library and the second program on N plans
+compare [--count N] [--seed S] [--threads T] [--table]    compares the proved library and the second program on N plans,
+                                                          and on N inputs for the readers and writers of sheets and attributes
 compare [--count N] [--seed S] --stream FILE              writes the texts of N plans to FILE";
 
 /// What the command line asks for.
 #[derive(Debug, PartialEq, Eq)]
 pub struct Arguments {
-    /// How many plans.
+    /// How many plans, and how many inputs.
     pub count: u64,
-    /// The seed of the first plan; each next has the next.
+    /// The seed of the first of each; each next has the next.
     pub seed: u64,
     /// How many threads share them.
     pub threads: u64,

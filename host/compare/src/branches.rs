@@ -1,9 +1,10 @@
 //! The table of branches: every clause of the paper's rules, as a row that says when it applies and what then comes back.
 //!
-//! When a row applies is told from the credentials before the call and the call alone, so that a row does not echo the answer. What comes
-//! back is then held against the row. A run of enough plans that never meets a row fails: its plans are too tame.
+//! When a row applies is told from what was given alone (for a call: from the credentials before it and the call), so that a row does not echo
+//! the answer. What comes back is then held against the row. A run of enough plans that never meets a row fails: its plans are too tame.
 //!
-//! The rows stand in files by the paper's sections. They were written from the paper, as a third reading of it.
+//! The rows of the calls stand in files by the paper's sections; those of texts, and of the readers and writers of sheets and attributes, in
+//! files of their own. They were written from the paper, as a third reading of it.
 
 mod ambient;
 mod attribute;
@@ -14,11 +15,24 @@ mod ids;
 mod launching;
 mod moment;
 mod operands;
+mod read_attribute;
+mod read_sheet;
 mod securebits;
+mod seen;
+mod sheet;
 mod texts;
+mod validity;
+mod write_attribute;
+mod write_sheet;
 
 pub use moment::Moment;
+pub use read_attribute::AttributeRead;
+pub use read_sheet::SheetRead;
+pub use seen::{Answer, Seen};
+pub use sheet::LONGEST as LONGEST_SHEET;
 pub use texts::Sight;
+pub use write_attribute::AttributeWrite;
+pub use write_sheet::SheetWrite;
 
 /// A clause: its name, when it applies, and what has to be true then.
 pub struct Row<M> {
@@ -42,73 +56,135 @@ impl<M> Row<M> {
 
 /// All rows.
 pub struct Table {
-    calls: Vec<Row<Moment>>,
-    // For each number of a call, which rows may apply.
+    calls: Group<Moment>,
+    // For each number of a call, which of its rows may apply.
     of_call: Vec<Vec<usize>>,
-    texts: Vec<Row<Sight>>,
+    texts: Group<Sight>,
+    sheets_read: Group<SheetRead>,
+    sheets_written: Group<SheetWrite>,
+    attributes_read: Group<AttributeRead>,
+    attributes_written: Group<AttributeWrite>,
+}
+
+// Rows that look at the same, and where the first has its count.
+struct Group<M> {
+    first: usize,
+    rows: Vec<Row<M>>,
 }
 
 /// How often each row of a table applied.
 #[derive(Clone)]
-pub struct Counts {
-    calls: Vec<u64>,
-    texts: Vec<u64>,
-}
+pub struct Counts(Vec<u64>);
 
 impl Table {
     /// The table.
     pub fn new() -> Table {
-        let mut table = Table { calls: Vec::new(), of_call: vec![Vec::new(); 256], texts: texts::rows() };
-        table.add(&[1], launching::rows());
-        table.add(&[1], attribute::rows());
-        table.add(&[2], capset::rows());
-        table.add(&[3, 4], bounding::rows());
-        table.add(&[5, 6, 7, 8], ambient::rows());
-        table.add(&[9, 10, 11, 12, 13, 14], securebits::rows());
-        table.add(&[15, 16, 17, 18], ids::rows());
-        table.add(&[15, 16, 17, 18], fixups::rows());
+        let mut calls = Calls { rows: Vec::new(), of_call: vec![Vec::new(); 256] };
+        calls.add(&[1], launching::rows());
+        calls.add(&[1], attribute::rows());
+        calls.add(&[2], capset::rows());
+        calls.add(&[3, 4], bounding::rows());
+        calls.add(&[5, 6, 7, 8], ambient::rows());
+        calls.add(&[9, 10, 11, 12, 13, 14], securebits::rows());
+        calls.add(&[15, 16, 17, 18], ids::rows());
+        calls.add(&[15, 16, 17, 18], fixups::rows());
         for call in 1..=18 {
-            table.add(&[call], operands::rows_of_call(call));
+            calls.add(&[call], operands::rows_of_call(call));
         }
         let no_calls: Vec<u8> = (0..=99).filter(|number| !(1..=18).contains(number)).collect();
-        table.add(&no_calls, operands::rows_of_no_call());
-        table
-    }
-
-    fn add(&mut self, calls: &[u8], rows: Vec<Row<Moment>>) {
-        let first = self.calls.len();
-        for call in calls {
-            self.of_call[usize::from(*call)].extend(first..first + rows.len());
-        }
-        self.calls.extend(rows);
+        calls.add(&no_calls, operands::rows_of_no_call());
+        let of_call = calls.of_call;
+        let calls = Group { first: 0, rows: calls.rows };
+        let texts = calls.followed_by(texts::rows());
+        let sheets_read = texts.followed_by(read_sheet::rows());
+        let sheets_written = sheets_read.followed_by(write_sheet::rows());
+        let attributes_read = sheets_written.followed_by(read_attribute::rows());
+        let attributes_written = attributes_read.followed_by(write_attribute::rows());
+        Table { calls, of_call, texts, sheets_read, sheets_written, attributes_read, attributes_written }
     }
 
     /// Counts of nothing yet.
     pub fn counts(&self) -> Counts {
-        Counts { calls: vec![0; self.calls.len()], texts: vec![0; self.texts.len()] }
+        Counts(vec![0; self.attributes_written.end()])
     }
 
     /// Counts the rows that apply to a call. Gives the name of a row whose demand is not met.
     pub fn meet_call(&self, moment: &Moment, counts: &mut Counts) -> Result<(), &str> {
         for index in &self.of_call[usize::from(moment.step.call)] {
-            meet(&self.calls[*index], moment, &mut counts.calls[*index])?;
+            meet(&self.calls.rows[*index], moment, &mut counts.0[*index])?;
         }
         Ok(())
     }
 
-    /// Counts the rows that apply to a text. Gives the name of a row whose demand is not met.
+    /// The same for the text of a plan.
     pub fn meet_text(&self, sight: &Sight, counts: &mut Counts) -> Result<(), &str> {
-        for (row, count) in self.texts.iter().zip(&mut counts.texts) {
-            meet(row, sight, count)?;
-        }
-        Ok(())
+        self.texts.meet(sight, counts)
+    }
+
+    /// The same for a text that the sheet reader was given.
+    pub fn meet_sheet_read(&self, read: &SheetRead, counts: &mut Counts) -> Result<(), &str> {
+        self.sheets_read.meet(read, counts)
+    }
+
+    /// The same for numbers that the sheet writer was given.
+    pub fn meet_sheet_write(&self, write: &SheetWrite, counts: &mut Counts) -> Result<(), &str> {
+        self.sheets_written.meet(write, counts)
+    }
+
+    /// The same for bytes that the attribute reader was given.
+    pub fn meet_attribute_read(&self, read: &AttributeRead, counts: &mut Counts) -> Result<(), &str> {
+        self.attributes_read.meet(read, counts)
+    }
+
+    /// The same for numbers that the attribute writer was given.
+    pub fn meet_attribute_write(&self, write: &AttributeWrite, counts: &mut Counts) -> Result<(), &str> {
+        self.attributes_written.meet(write, counts)
     }
 
     /// Each row's name with its count.
-    pub fn counted<'a>(&'a self, counts: &'a Counts) -> Vec<(&'a str, u64)> {
-        let calls = self.calls.iter().map(|row| row.name.as_str()).zip(counts.calls.iter().copied());
-        let texts = self.texts.iter().map(|row| row.name.as_str()).zip(counts.texts.iter().copied());
-        calls.chain(texts).collect()
+    pub fn counted(&self, counts: &Counts) -> Vec<(&str, u64)> {
+        let names = self.calls.names().chain(self.texts.names());
+        let names = names.chain(self.sheets_read.names()).chain(self.sheets_written.names());
+        let names = names.chain(self.attributes_read.names()).chain(self.attributes_written.names());
+        names.zip(counts.0.iter().copied()).collect()
+    }
+}
+
+// The rows of calls, and which of them may apply to each.
+struct Calls {
+    rows: Vec<Row<Moment>>,
+    of_call: Vec<Vec<usize>>,
+}
+
+impl Calls {
+    fn add(&mut self, calls: &[u8], rows: Vec<Row<Moment>>) {
+        let first = self.rows.len();
+        for call in calls {
+            self.of_call[usize::from(*call)].extend(first..first + rows.len());
+        }
+        self.rows.extend(rows);
+    }
+}
+
+impl<M> Group<M> {
+    // The group of those rows, its counts after this one's.
+    fn followed_by<N>(&self, rows: Vec<Row<N>>) -> Group<N> {
+        Group { first: self.end(), rows }
+    }
+
+    fn end(&self) -> usize {
+        self.first + self.rows.len()
+    }
+
+    fn meet(&self, met: &M, counts: &mut Counts) -> Result<(), &str> {
+        for (row, count) in self.rows.iter().zip(&mut counts.0[self.first..]) {
+            meet(row, met, count)?;
+        }
+        Ok(())
+    }
+
+    fn names(&self) -> impl Iterator<Item = &str> {
+        self.rows.iter().map(|row| row.name.as_str())
     }
 }
 
@@ -125,10 +201,7 @@ fn meet<'a, M>(row: &'a Row<M>, met: &M, count: &mut u64) -> Result<(), &'a str>
 impl Counts {
     /// Adds the counts of another run with the same table.
     pub fn add(&mut self, other: &Counts) {
-        for (count, more) in self.calls.iter_mut().zip(&other.calls) {
-            *count += more;
-        }
-        for (count, more) in self.texts.iter_mut().zip(&other.texts) {
+        for (count, more) in self.0.iter_mut().zip(&other.0) {
             *count += more;
         }
     }
@@ -146,5 +219,6 @@ mod tests {
         let rows = table.counted(&counts);
         let names: HashSet<&str> = rows.iter().map(|(name, _)| *name).collect();
         assert_eq!(names.len(), rows.len());
+        assert_eq!(counts.0.len(), rows.len());
     }
 }

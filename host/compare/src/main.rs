@@ -1,24 +1,25 @@
 //! Runs generated plans through the proved library and the second program, and demands that they agree on code, line, length and every byte
-//! of the buffer.
+//! of the buffer; and inputs for the readers and writers of sheets and attributes likewise.
 //!
-//! The first plan on which they differ is printed, and the program ends with 1. So it does if a run of at least 20,000 plans did not reach
-//! every branch of the rules. Wrong arguments end it with 2.
+//! The first plan on which they differ is printed, or else the first input, and the program ends with 1. So it does if a run of at least
+//! 20,000 did not reach every branch of the rules. Wrong arguments end it with 2.
 
 mod arguments;
 mod branches;
+mod buffers;
 mod check;
 mod difference;
 mod stream;
 
 use arguments::Arguments;
 use branches::{Counts, Table};
-use check::Checker;
+use check::{Check, InputChecker, PlanChecker, FUNCTIONS};
 use difference::Difference;
 use std::process::ExitCode;
 use std::sync::atomic::{AtomicU64, Ordering};
 use std::thread;
 
-/// With so many plans every branch has to be reached.
+/// With so many plans and inputs every branch has to be reached.
 const ENOUGH: u64 = 20_000;
 
 fn main() -> ExitCode {
@@ -55,44 +56,60 @@ fn write_stream(name: &str, arguments: &Arguments) -> bool {
 
 fn compare(arguments: &Arguments) -> bool {
     let table = Table::new();
-    let first_difference = AtomicU64::new(u64::MAX);
-    let shares: Vec<Share> = thread::scope(|scope| {
-        let share = |thread| {
-            let (table, first_difference) = (&table, &first_difference);
-            scope.spawn(move || check_share(arguments, thread, table, first_difference))
-        };
-        let threads: Vec<_> = (0..arguments.threads).map(share).collect();
-        threads.into_iter().map(|thread| thread.join().expect("a thread that checks plans does not panic")).collect()
-    });
     let mut counts = table.counts();
-    let mut runs = 0;
-    for share in &shares {
-        counts.add(&share.counts);
-        runs += share.runs;
-    }
-    let differences = shares.iter().filter_map(|share| share.difference.as_ref());
-    if let Some((number, difference)) = differences.min_by_key(|(number, _)| *number) {
-        println!("{}compare: found by plan {} of {}", difference.message(), number + 1, arguments.count);
-        return false;
-    }
+    let Some(plans) = checked(arguments, &mut counts, "plan", || PlanChecker::new(&table)) else { return false };
+    let runs: u64 = plans.iter().map(Check::runs).sum();
     println!(
         "compare: {} plans from seed {}, {runs} runs of each program: no difference",
         arguments.count, arguments.seed
     );
+    let Some(inputs) = checked(arguments, &mut counts, "input", || InputChecker::new(&table)) else { return false };
+    for (function, name) in FUNCTIONS.iter().enumerate() {
+        let tallies = inputs.iter().map(|checker| checker.tallies[function]);
+        let (inputs, runs) = tallies.fold((0, 0), |(inputs, runs), tally| (inputs + tally.inputs, runs + tally.runs));
+        println!("compare: {inputs} inputs for {name}, {runs} runs of each program: no difference");
+    }
     report_branches(arguments, &table, &counts)
 }
 
+// Checks as many seeds as are asked for, with a checker to each thread, and adds up what they reach. Gives the checkers; or prints the first
+// difference and gives none.
+fn checked<C: Check + Send>(
+    arguments: &Arguments,
+    counts: &mut Counts,
+    what: &str,
+    new: impl Fn() -> C + Sync,
+) -> Option<Vec<C>> {
+    let first_difference = AtomicU64::new(u64::MAX);
+    let shares: Vec<Share<C>> = thread::scope(|scope| {
+        let share = |thread| {
+            let (new, first_difference) = (&new, &first_difference);
+            scope.spawn(move || check_share(arguments, thread, new(), first_difference))
+        };
+        let threads: Vec<_> = (0..arguments.threads).map(share).collect();
+        threads.into_iter().map(|thread| thread.join().expect("a thread that checks does not panic")).collect()
+    });
+    let differences = shares.iter().filter_map(|share| share.difference.as_ref());
+    if let Some((number, difference)) = differences.min_by_key(|(number, _)| *number) {
+        println!("{}compare: found by {what} {} of {}", difference.message(), number + 1, arguments.count);
+        return None;
+    }
+    let checkers: Vec<C> = shares.into_iter().map(|share| share.checker).collect();
+    for checker in &checkers {
+        counts.add(checker.counts());
+    }
+    Some(checkers)
+}
+
 /// What one thread has found.
-struct Share {
-    counts: Counts,
-    runs: u64,
-    /// The first plan at fault among its own, and its number.
+struct Share<C> {
+    checker: C,
+    /// The first at fault among its own, and its number.
     difference: Option<(u64, Box<Difference>)>,
 }
 
-// Checks every so many plans, up to the first at fault. Threads stop only past a fault that was found, so the first of all is found.
-fn check_share(arguments: &Arguments, thread: u64, table: &Table, first_difference: &AtomicU64) -> Share {
-    let mut checker = Checker::new(table);
+// Checks every so many seeds, up to the first at fault. Threads stop only past a fault that was found, so the first of all is found.
+fn check_share<C: Check>(arguments: &Arguments, thread: u64, mut checker: C, first_difference: &AtomicU64) -> Share<C> {
     let mut difference = None;
     let mut number = thread;
     while number < arguments.count.min(first_difference.load(Ordering::Relaxed)) {
@@ -103,7 +120,7 @@ fn check_share(arguments: &Arguments, thread: u64, table: &Table, first_differen
         }
         number += arguments.threads;
     }
-    Share { counts: checker.counts, runs: checker.runs, difference }
+    Share { checker, difference }
 }
 
 // Says which branches were reached. True if all were, or if the run was too short to ask for them.

@@ -63,30 +63,42 @@ fn unreadable(name: impl Into<String>, when: impl Fn(&[u8]) -> bool + Send + Syn
     Row::new(name, applies, |m| m.is_refused(60))
 }
 
-/// The rows of refusal 60, and those of what is readable.
-pub fn rows() -> Vec<Row<Moment>> {
-    let mut rows = vec![
-        unreadable("60: revision 0", |bytes| matches!(bytes.len(), 12 | 20) && bytes[3] == 0),
-        unreadable("60: revision 3", |bytes| matches!(bytes.len(), 12 | 20) && bytes[3] == 3),
-        unreadable("60: revision above 3", |bytes| matches!(bytes.len(), 12 | 20) && bytes[3] > 3),
-        unreadable("60: revision 1 in 20 bytes", |bytes| bytes.len() == 20 && bytes[3] == 1),
-        unreadable("60: revision 2 in 12 bytes", |bytes| bytes.len() == 12 && bytes[3] == 2),
-        unreadable("60: other bits in the first word, version 1", |bytes| {
+/// Tells whether bytes are unreadable in one way.
+pub type Way = Box<dyn Fn(&[u8]) -> bool + Send + Sync>;
+
+/// The ways to be unreadable, for attributes of up to so many bytes: the name of each, and whether bytes are so.
+pub fn ways_to_be_unreadable(longest: usize) -> Vec<(String, Way)> {
+    let way = |name: &str, when: fn(&[u8]) -> bool| -> (String, Way) { (name.to_string(), Box::new(when)) };
+    let mut ways = vec![
+        way("revision 0", |bytes| matches!(bytes.len(), 12 | 20) && bytes[3] == 0),
+        way("revision 3", |bytes| matches!(bytes.len(), 12 | 20) && bytes[3] == 3),
+        way("revision above 3", |bytes| matches!(bytes.len(), 12 | 20) && bytes[3] > 3),
+        way("revision 1 in 20 bytes", |bytes| bytes.len() == 20 && bytes[3] == 1),
+        way("revision 2 in 12 bytes", |bytes| bytes.len() == 12 && bytes[3] == 2),
+        way("other bits in the first word, version 1", |bytes| {
             bytes.len() == 12 && bytes[3] == 1 && has_other_bits(bytes)
         }),
-        unreadable("60: other bits in the first word, version 2", |bytes| {
+        way("other bits in the first word, version 2", |bytes| {
             bytes.len() == 20 && bytes[3] == 2 && has_other_bits(bytes) && !has_bits_above_40(bytes)
         }),
-        unreadable("60: bit above 40 in the permitted set", |bytes| only_above_40(bytes, 3, 4)),
-        unreadable("60: bit above 40 in the inheritable set", |bytes| only_above_40(bytes, 4, 3)),
-        Row::new(
-            "60 comes after 22",
-            |m: &Moment| !m.given && read(&m.step.attr) == Reading::Unreadable,
-            |m| m.is_refused(22),
-        ),
+        way("bit above 40 in the permitted set", |bytes| only_above_40(bytes, 3, 4)),
+        way("bit above 40 in the inheritable set", |bytes| only_above_40(bytes, 4, 3)),
     ];
-    for length in (1..=24).filter(|length| !matches!(length, 12 | 20)) {
-        rows.push(unreadable(format!("60: {length} bytes"), move |bytes| bytes.len() == length));
+    for length in (1..=longest).filter(|length| !matches!(length, 12 | 20)) {
+        ways.push((format!("{length} bytes"), Box::new(move |bytes| bytes.len() == length)));
+    }
+    ways
+}
+
+/// The rows of refusal 60, and those of what is readable.
+pub fn rows() -> Vec<Row<Moment>> {
+    let mut rows = vec![Row::new(
+        "60 comes after 22",
+        |m: &Moment| !m.given && read(&m.step.attr) == Reading::Unreadable,
+        |m| m.is_refused(22),
+    )];
+    for (name, when) in ways_to_be_unreadable(24) {
+        rows.push(unreadable(format!("60: {name}"), when));
     }
     for version in [1, 2] {
         let name = format!("Attribute bytes: version {version} is read");

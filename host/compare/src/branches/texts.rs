@@ -1,29 +1,13 @@
 //! "Sheet, plan and report" and the codes of a plan: 70, 72, 28 in that order.
 
+use super::sheet::{Values, KEYS};
+use super::validity::FLAWS_OF_TEXTS;
 use super::Row;
 use plans::{Fault, Generated, Kind};
-use second::Credentials;
 use urrezkalu::Outcome;
 
-/// The keys of a sheet's eleven lines, then those of a step's five.
-const KEYS: [&str; 16] = [
-    "ruid",
-    "euid",
-    "suid",
-    "fsuid",
-    "permitted",
-    "inheritable",
-    "effective",
-    "bounding",
-    "ambient",
-    "securebits",
-    "nnp",
-    "call",
-    "a",
-    "b",
-    "c",
-    "attr",
-];
+/// The keys of a step's five lines.
+const STEP_KEYS: [&str; 5] = ["call", "a", "b", "c", "attr"];
 const SHEET_LINES: u32 = 11;
 const STEP_LINES: u32 = 5;
 const LINE_OF_STEP_257: u32 = 1292;
@@ -59,9 +43,9 @@ impl Sight {
     }
 
     /// The start of a plan that is well-formed and not valid.
-    fn invalid_start(&self) -> Option<&Credentials> {
+    fn invalid_start(&self) -> Option<Values> {
         match &self.generated.kind {
-            Kind::Flawed(plan) => Some(&plan.start),
+            Kind::Flawed(plan) => Some(plans::values(&plan.start)),
             _ => None,
         }
     }
@@ -99,7 +83,7 @@ fn is_in_a_step(line: u32) -> bool {
 
 fn rows_of_lines() -> Vec<Row<Sight>> {
     let mut rows = Vec::new();
-    for (key, number) in KEYS.into_iter().zip(1..) {
+    for (key, number) in KEYS.into_iter().chain(STEP_KEYS).zip(1..) {
         if number <= SHEET_LINES {
             rows.push(malformed(format!("70: line {number}, {key}"), move |_, line| line == number));
             rows.push(malformed(format!("70: the text ends in line {number}, {key}"), move |s, line| {
@@ -160,7 +144,8 @@ fn rows_of_faults() -> Vec<Row<Sight>> {
     rows
 }
 
-fn described(fault: Fault) -> &'static str {
+/// A fault in a few words.
+pub fn described(fault: Fault) -> &'static str {
     match fault {
         Fault::NotADigit => "no digit in a value",
         Fault::UpperCase => "upper-case hex",
@@ -194,48 +179,13 @@ fn described(fault: Fault) -> &'static str {
     }
 }
 
-/// The clauses of "Valid", each true where the credentials break it.
-const CLAUSES: [fn(&Credentials) -> bool; 12] = [
-    |t| t.effective & !t.permitted != 0,
-    |t| t.ambient & !t.permitted != 0,
-    |t| t.ambient & !t.inheritable != 0,
-    |t| t.permitted > FULL,
-    |t| t.inheritable > FULL,
-    |t| t.effective > FULL,
-    |t| t.bounding > FULL,
-    |t| t.ambient > FULL,
-    |t| t.ruid == u32::MAX,
-    |t| t.euid == u32::MAX,
-    |t| t.suid == u32::MAX,
-    |t| t.fsuid == u32::MAX,
-];
-const FULL: u64 = 0x1ff_ffff_ffff;
-
-/// Starts by the clauses that they break, which are just those. A bit above 40 in E is in P too, for E to be within it; likewise with A.
-const INVALID_STARTS: [(&str, &[usize]); 12] = [
-    ("E outside P", &[0]),
-    ("A outside P, within I", &[1]),
-    ("A outside I, within P", &[2]),
-    ("bit above 40 in P", &[3]),
-    ("bit above 40 in I", &[4]),
-    ("bit above 40 in E and P", &[3, 5]),
-    ("bit above 40 in B", &[6]),
-    ("bit above 40 in A, P and I", &[3, 4, 7]),
-    ("real ID 4294967295", &[8]),
-    ("effective ID 4294967295", &[9]),
-    ("saved ID 4294967295", &[10]),
-    ("filesystem ID 4294967295", &[11]),
-];
-
 fn rows_of_starts() -> Vec<Row<Sight>> {
-    let breaks_just = |start: &Credentials, these: &[usize]| {
-        CLAUSES.iter().enumerate().all(|(at, is_broken)| is_broken(start) == these.contains(&at))
-    };
     let is_invalid = |s: &Sight| [s.outcome, s.exact, s.one_short, s.no_room] == [Outcome::Invalid; 4];
     let mut rows = Vec::new();
-    for (name, broken) in INVALID_STARTS {
-        let applies = move |s: &Sight| s.invalid_start().is_some_and(|start| breaks_just(start, broken));
-        rows.push(Row::new(format!("72: {name}"), applies, is_invalid));
+    for flaw in FLAWS_OF_TEXTS {
+        let name = format!("72: {}", flaw.name);
+        let applies = move |s: &Sight| s.invalid_start().is_some_and(|start| flaw.is_just_in(&start));
+        rows.push(Row::new(name, applies, is_invalid));
     }
     rows
 }
