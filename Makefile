@@ -3,7 +3,7 @@
 SHELL := /bin/bash
 .SHELLFLAGS := -o pipefail -euc
 
-# How many plans `make compare` runs, and what `make kernel` is told besides (docs/KERNEL.md).
+# How many plans, and how many sheets and attributes, `make compare` runs; and what `make kernel` is told besides (docs/KERNEL.md).
 N = 1000000
 OPTIONS =
 
@@ -30,7 +30,7 @@ library:
 	@echo 'make library: proving and building the library' >&2
 	@rt staticlib capi >&2
 
-# The library and the second program on N plans.
+# The library and the second program on N plans, and on N sheets and attributes.
 compare: library
 	@$(CARGO_RUN) -p compare -- --count $(N)
 
