@@ -105,9 +105,10 @@ pub fn see<F: Function>(function: &F, buffers: &mut Buffers<F::Element>, seed: u
     Ok(Seen { no_room, one_short, exact, some, roomy, written })
 }
 
-/// Runs both with more than enough room, and gives what they write.
-pub fn written<F: Function>(function: &F, buffers: &mut Buffers<F::Element>) -> Result<Vec<F::Element>, Fault> {
-    let answer = agree(function, buffers, buffers.length())?;
+/// Runs both on what their counterpart has written, with more than enough room, and gives what they write.
+pub fn back_again<F: Function>(function: &F, buffers: &mut Buffers<F::Element>) -> Result<Vec<F::Element>, Fault> {
+    let answer = agree(function, buffers, buffers.length());
+    let answer = answer.map_err(|Fault { what, more }| Fault { what: format!("back again, {what}"), more })?;
     Ok(buffers.proved[..answer.written()].to_vec())
 }
 
@@ -175,5 +176,13 @@ mod tests {
             "proved library: Answer { code: 0, number: 2 }\nsecond program: Answer { code: 0, number: 3 }"
         ));
         assert!(seen(2, 1, 2).is_err());
+    }
+
+    #[test]
+    fn what_is_taken_back_is_given_or_told_so() {
+        let told = |content| Told { content, answer: Written { code: 0, number: 2 } };
+        assert!(matches!(back_again(&told(2), &mut Buffers::of_bytes(8)), Ok(written) if written == [1, 2]));
+        let Err(fault) = back_again(&told(3), &mut Buffers::of_bytes(8)) else { panic!("another element passes") };
+        assert_eq!(fault.what, "back again, the buffers differ, with room for 8 bytes");
     }
 }

@@ -1,6 +1,6 @@
 //! One input for a reader or a writer of sheets or attributes: in buffers of several lengths, and back again.
 
-use super::functions::{see, written, Fault, ReadAttribute, ReadSheet, WriteAttribute, WriteSheet};
+use super::functions::{back_again, see, Fault, ReadAttribute, ReadSheet, WriteAttribute, WriteSheet};
 use super::{against_the_table, Check};
 use crate::branches::{AttributeRead, AttributeWrite, Counts, Seen, SheetRead, SheetWrite, Table, LONGEST_SHEET};
 use crate::buffers::{Buffers, Element};
@@ -77,7 +77,7 @@ impl<'a> InputChecker<'a> {
         let seen = see(&ReadSheet(&generated.text), &mut self.places, seed)?;
         let again = match &seen.written[..] {
             [] => None,
-            values => Some(written(&WriteSheet(values), &mut self.bytes)?),
+            values => Some(back_again(&WriteSheet(values), &mut self.bytes)?),
         };
         let read = SheetRead::new(generated, seen, again);
         self.table.meet_sheet_read(&read, &mut self.counts).map_err(|row| unexpected(row, &read.seen))
@@ -87,7 +87,7 @@ impl<'a> InputChecker<'a> {
         let seen = see(&WriteSheet(&values), &mut self.bytes, seed)?;
         let again = match &seen.written[..] {
             [] => None,
-            sheet => Some(written(&ReadSheet(sheet), &mut self.places)?),
+            sheet => Some(back_again(&ReadSheet(sheet), &mut self.places)?),
         };
         let write = SheetWrite::new(values, seen, again);
         self.table.meet_sheet_write(&write, &mut self.counts).map_err(|row| unexpected(row, &write.seen))
@@ -97,7 +97,7 @@ impl<'a> InputChecker<'a> {
         let seen = see(&ReadAttribute(&attribute), &mut self.places, seed)?;
         let again = match seen.written[..] {
             [1, permitted, inheritable, effective] => {
-                Some(written(&WriteAttribute(Operands { permitted, inheritable, effective }), &mut self.bytes)?)
+                Some(back_again(&WriteAttribute(Operands { permitted, inheritable, effective }), &mut self.bytes)?)
             }
             // None attached has no written form.
             _ => None,
@@ -110,7 +110,7 @@ impl<'a> InputChecker<'a> {
         let seen = see(&WriteAttribute(operands), &mut self.bytes, seed)?;
         let again = match &seen.written[..] {
             [] => None,
-            attribute => Some(written(&ReadAttribute(attribute), &mut self.places)?),
+            attribute => Some(back_again(&ReadAttribute(attribute), &mut self.places)?),
         };
         let write = AttributeWrite::new(operands, seen, again);
         self.table.meet_attribute_write(&write, &mut self.counts).map_err(|row| unexpected(row, &write.seen))
