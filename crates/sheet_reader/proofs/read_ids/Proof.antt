@@ -1,45 +1,34 @@
+-- `sheet_reader::read_ids` meets its contract. Assumes nothing.
 use Rattle.format.specs.Sheet.{idKinds}
 use Rattle.line_reader.specs.Inside.{linesAt}
 use borrow.Author.Needs.{needs}
 use Rattle.sheet_reader.proofs.read_ids.Statement.{statement}
 use Rattle.sheet_reader.proofs.read_ids.Tie as tie
-use Rattle.sheet_reader.proofs.read_ids.Reads as reads
-use Rattle.sheet_reader.proofs.read_ids.Lts as lts
-use Rattle.line_reader.proofs.read_decimal.Reads as read-decimal-reads
 
--- src/lib.rt:62:42
 slice-aggregate-read-decimal : tie.Need-slice-aggregate-read-decimal
 slice-aggregate-read-decimal c = search needs
 
--- src/lib.rt:62:9
 read-decimal-requires : tie.Need-read-decimal-requires
-read-decimal-requires c κs = search needs
+read-decimal-requires c κs = tt
 
--- src/lib.rt:63:52
 slice-aggregate-read-decimal-2 : tie.Need-slice-aggregate-read-decimal-2
 slice-aggregate-read-decimal-2 c = search needs
 
--- src/lib.rt:63:9
 read-decimal-requires-2 : tie.Need-read-decimal-requires-2
-read-decimal-requires-2 c κs = search needs
+read-decimal-requires-2 c κs = tt
 
--- src/lib.rt:64:53
 slice-aggregate-read-decimal-3 : tie.Need-slice-aggregate-read-decimal-3
 slice-aggregate-read-decimal-3 c = search needs
 
--- src/lib.rt:64:9
 read-decimal-requires-3 : tie.Need-read-decimal-requires-3
-read-decimal-requires-3 c κs = search needs
+read-decimal-requires-3 c κs = tt
 
--- src/lib.rt:65:54
 slice-aggregate-read-decimal-4 : tie.Need-slice-aggregate-read-decimal-4
 slice-aggregate-read-decimal-4 c = search needs
 
--- src/lib.rt:65:9
 read-decimal-requires-4 : tie.Need-read-decimal-requires-4
-read-decimal-requires-4 c κs = search needs
+read-decimal-requires-4 c κs = tt
 
--- src/lib.rt:59:1
 returns : tie.Need-returns
 unfolding linesAt idKinds
 returns c =

@@ -1,53 +1,40 @@
+-- `sheet_reader::read_sets` meets its contract. Assumes nothing.
 use Rattle.format.specs.Sheet.{setKinds}
 use Rattle.line_reader.specs.Inside.{linesAt}
 use borrow.Author.Needs.{needs}
 use Rattle.sheet_reader.proofs.read_sets.Statement.{statement}
 use Rattle.sheet_reader.proofs.read_sets.Tie as tie
-use Rattle.sheet_reader.proofs.read_sets.Reads as reads
-use Rattle.sheet_reader.proofs.read_sets.Lts as lts
-use Rattle.line_reader.proofs.read_hex16.Reads as read-hex16-reads
 
--- src/lib.rt:80:45
 slice-aggregate-read-hex16 : tie.Need-slice-aggregate-read-hex16
 slice-aggregate-read-hex16 c = search needs
 
--- src/lib.rt:80:9
 read-hex16-requires : tie.Need-read-hex16-requires
-read-hex16-requires c κs = search needs
+read-hex16-requires c κs = tt
 
--- src/lib.rt:81:57
 slice-aggregate-read-hex16-2 : tie.Need-slice-aggregate-read-hex16-2
 slice-aggregate-read-hex16-2 c = search needs
 
--- src/lib.rt:81:9
 read-hex16-requires-2 : tie.Need-read-hex16-requires-2
-read-hex16-requires-2 c κs = search needs
+read-hex16-requires-2 c κs = tt
 
--- src/lib.rt:82:57
 slice-aggregate-read-hex16-3 : tie.Need-slice-aggregate-read-hex16-3
 slice-aggregate-read-hex16-3 c = search needs
 
--- src/lib.rt:82:9
 read-hex16-requires-3 : tie.Need-read-hex16-requires-3
-read-hex16-requires-3 c κs = search needs
+read-hex16-requires-3 c κs = tt
 
--- src/lib.rt:83:54
 slice-aggregate-read-hex16-4 : tie.Need-slice-aggregate-read-hex16-4
 slice-aggregate-read-hex16-4 c = search needs
 
--- src/lib.rt:83:9
 read-hex16-requires-4 : tie.Need-read-hex16-requires-4
-read-hex16-requires-4 c κs = search needs
+read-hex16-requires-4 c κs = tt
 
--- src/lib.rt:84:52
 slice-aggregate-read-hex16-5 : tie.Need-slice-aggregate-read-hex16-5
 slice-aggregate-read-hex16-5 c = search needs
 
--- src/lib.rt:84:9
 read-hex16-requires-5 : tie.Need-read-hex16-requires-5
-read-hex16-requires-5 c κs = search needs
+read-hex16-requires-5 c κs = tt
 
--- src/lib.rt:77:1
 returns : tie.Need-returns
 unfolding linesAt setKinds
 returns c =

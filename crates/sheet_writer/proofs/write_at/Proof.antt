@@ -7,13 +7,13 @@ use Rattle.sheet_writer.proofs.write_at.Statement.{statement}
 use Rattle.sheet_writer.proofs.write_at.Tie as tie
 
 is-valid-requires : tie.Need-is-valid-requires
-is-valid-requires c κs = search needs
+is-valid-requires c κs = tt
 
 sheet-length-requires : tie.Need-sheet-length-requires
-sheet-length-requires c κs = search needs
+sheet-length-requires c κs = tt
 
 refused-requires : tie.Need-refused-requires
-refused-requires c κs = search needs
+refused-requires c κs = tt
 
 returns : tie.Need-returns
 returns c =
@@ -22,7 +22,7 @@ returns c =
     (c .refused .ensures ∙ n .0, n .1)
 
 refused-requires-2 : tie.Need-refused-requires-2
-refused-requires-2 c κs = search needs
+refused-requires-2 c κs = tt
 
 returns-2 : tie.Need-returns-2
 returns-2 c =
@@ -31,7 +31,7 @@ returns-2 c =
     (c .refused2 .ensures ∙ n .0, n .1)
 
 write-lines-requires : tie.Need-write-lines-requires
-write-lines-requires c κs = search needs
+write-lines-requires c κs = tt
 
 cast-t11 : tie.Need-cast-t11
 cast-t11 c = search needs
@@ -44,7 +44,7 @@ returns-3 c =
     sheet-written _ _ _ _ _ (sym (c .before .before .before .before .before .before .before .if1 .taken) ∙ c .before .before .before .before .before .before .before .before .is-valid .ensures) (c .before .before .before .before .before .before .sheet-length .ensures .0) (omega (arith, c .before .before .before .before .if3 .left, c .before .before .before .before .before .if2 .left)) (c .before .before .write-lines .ensures .1)
 
 refused-requires-3 : tie.Need-refused-requires-3
-refused-requires-3 c κs = search needs
+refused-requires-3 c κs = tt
 
 returns-4 : tie.Need-returns-4
 returns-4 c = let n = sheet-invalid _ _ _ (sym (c .before .if1 .left) ∙ c .before .before .is-valid .ensures) in (c .refused3 .ensures ∙ n .0, n .1)

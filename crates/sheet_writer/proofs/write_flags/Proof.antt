@@ -10,7 +10,7 @@ slice-aggregate-write-hex : tie.Need-slice-aggregate-write-hex
 slice-aggregate-write-hex c = search needs
 
 write-hex-requires : tie.Need-write-hex-requires
-write-hex-requires c κs = search needs
+write-hex-requires c κs = tt
 
 slice-aggregate-write-decimal : tie.Need-slice-aggregate-write-decimal
 slice-aggregate-write-decimal c = search needs
@@ -19,7 +19,7 @@ cast-write-decimal : tie.Need-cast-write-decimal
 cast-write-decimal c = search needs
 
 write-decimal-requires : tie.Need-write-decimal-requires
-write-decimal-requires c κs = search needs
+write-decimal-requires c κs = tt
 
 same-length : tie.Need-same-length
 same-length c = search needs

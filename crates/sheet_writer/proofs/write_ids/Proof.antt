@@ -9,25 +9,25 @@ slice-aggregate-write-decimal : tie.Need-slice-aggregate-write-decimal
 slice-aggregate-write-decimal c = search needs
 
 write-decimal-requires : tie.Need-write-decimal-requires
-write-decimal-requires c κs = search needs
+write-decimal-requires c κs = tt
 
 slice-aggregate-write-decimal-2 : tie.Need-slice-aggregate-write-decimal-2
 slice-aggregate-write-decimal-2 c = search needs
 
 write-decimal-requires-2 : tie.Need-write-decimal-requires-2
-write-decimal-requires-2 c κs = search needs
+write-decimal-requires-2 c κs = tt
 
 slice-aggregate-write-decimal-3 : tie.Need-slice-aggregate-write-decimal-3
 slice-aggregate-write-decimal-3 c = search needs
 
 write-decimal-requires-3 : tie.Need-write-decimal-requires-3
-write-decimal-requires-3 c κs = search needs
+write-decimal-requires-3 c κs = tt
 
 slice-aggregate-write-decimal-4 : tie.Need-slice-aggregate-write-decimal-4
 slice-aggregate-write-decimal-4 c = search needs
 
 write-decimal-requires-4 : tie.Need-write-decimal-requires-4
-write-decimal-requires-4 c κs = search needs
+write-decimal-requires-4 c κs = tt
 
 same-length : tie.Need-same-length
 same-length c = search needs

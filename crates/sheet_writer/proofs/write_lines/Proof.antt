@@ -5,13 +5,13 @@ use Rattle.sheet_writer.proofs.write_lines.Statement.{statement}
 use Rattle.sheet_writer.proofs.write_lines.Tie as tie
 
 write-ids-requires : tie.Need-write-ids-requires
-write-ids-requires c κs = search needs
+write-ids-requires c κs = tt
 
 write-sets-requires : tie.Need-write-sets-requires
-write-sets-requires c κs = search needs
+write-sets-requires c κs = tt
 
 write-flags-requires : tie.Need-write-flags-requires
-write-flags-requires c κs = search needs
+write-flags-requires c κs = tt
 
 same-length : tie.Need-same-length
 same-length c = search needs

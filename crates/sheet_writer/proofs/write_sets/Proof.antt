@@ -9,31 +9,31 @@ slice-aggregate-write-hex : tie.Need-slice-aggregate-write-hex
 slice-aggregate-write-hex c = search needs
 
 write-hex-requires : tie.Need-write-hex-requires
-write-hex-requires c κs = search needs
+write-hex-requires c κs = tt
 
 slice-aggregate-write-hex-2 : tie.Need-slice-aggregate-write-hex-2
 slice-aggregate-write-hex-2 c = search needs
 
 write-hex-requires-2 : tie.Need-write-hex-requires-2
-write-hex-requires-2 c κs = search needs
+write-hex-requires-2 c κs = tt
 
 slice-aggregate-write-hex-3 : tie.Need-slice-aggregate-write-hex-3
 slice-aggregate-write-hex-3 c = search needs
 
 write-hex-requires-3 : tie.Need-write-hex-requires-3
-write-hex-requires-3 c κs = search needs
+write-hex-requires-3 c κs = tt
 
 slice-aggregate-write-hex-4 : tie.Need-slice-aggregate-write-hex-4
 slice-aggregate-write-hex-4 c = search needs
 
 write-hex-requires-4 : tie.Need-write-hex-requires-4
-write-hex-requires-4 c κs = search needs
+write-hex-requires-4 c κs = tt
 
 slice-aggregate-write-hex-5 : tie.Need-slice-aggregate-write-hex-5
 slice-aggregate-write-hex-5 c = search needs
 
 write-hex-requires-5 : tie.Need-write-hex-requires-5
-write-hex-requires-5 c κs = search needs
+write-hex-requires-5 c κs = tt
 
 same-length : tie.Need-same-length
 same-length c = search needs

@@ -9,13 +9,13 @@ slice-aggregate-write-decimal : tie.Need-slice-aggregate-write-decimal
 slice-aggregate-write-decimal c = search needs
 
 write-decimal-requires : tie.Need-write-decimal-requires
-write-decimal-requires c κs = search needs
+write-decimal-requires c κs = tt
 
 slice-aggregate-write-hex : tie.Need-slice-aggregate-write-hex
 slice-aggregate-write-hex c = search needs
 
 write-hex-requires : tie.Need-write-hex-requires
-write-hex-requires c κs = search needs
+write-hex-requires c κs = tt
 
 same-length : tie.Need-same-length
 same-length c = search needs

@@ -9,25 +9,25 @@ slice-aggregate-read-decimal : tie.Need-slice-aggregate-read-decimal
 slice-aggregate-read-decimal c = search needs
 
 read-decimal-requires : tie.Need-read-decimal-requires
-read-decimal-requires c κs = search needs
+read-decimal-requires c κs = tt
 
 slice-aggregate-read-hex16 : tie.Need-slice-aggregate-read-hex16
 slice-aggregate-read-hex16 c = search needs
 
 read-hex16-requires : tie.Need-read-hex16-requires
-read-hex16-requires c κs = search needs
+read-hex16-requires c κs = tt
 
 slice-aggregate-read-hex16-2 : tie.Need-slice-aggregate-read-hex16-2
 slice-aggregate-read-hex16-2 c = search needs
 
 read-hex16-requires-2 : tie.Need-read-hex16-requires-2
-read-hex16-requires-2 c κs = search needs
+read-hex16-requires-2 c κs = tt
 
 slice-aggregate-read-hex16-3 : tie.Need-slice-aggregate-read-hex16-3
 slice-aggregate-read-hex16-3 c = search needs
 
 read-hex16-requires-3 : tie.Need-read-hex16-requires-3
-read-hex16-requires-3 c κs = search needs
+read-hex16-requires-3 c κs = tt
 
 returns : tie.Need-returns
 unfolding linesAt stepKinds
