@@ -29,6 +29,7 @@ pub record ValidIds (u : Ids) : Type 0 where
 pub record Valid (c : Credentials) : Type 0 where
   pub sets : ValidSets (c .sets)
   pub uids : ValidIds (c .uids)
+  pub gids : ValidIds (c .gids)
   pub securebits-small : c .securebits ≤ 255
 
 -- ---- conjunctions, taken apart and put together
@@ -105,25 +106,33 @@ module _ (u : Ids) where
 
 -- ---- the law
 
+-- every clause but the last
+abbrev setsAndIds : Credentials → Bool
+setsAndIds c = effectivePermitted (c .sets) && ambientHeld (c .sets) && noBitAbove40 (c .sets) && idsInRange (c .uids) && idsInRange (c .gids)
+
 pub valid-facts : (c : Credentials) → valid c ≡ true → Valid c
 unfolding valid
 valid-facts c h =
     let f =
-    five (effectivePermitted (c .sets)) (ambientHeld (c .sets)) (noBitAbove40 (c .sets)) (idsInRange (c .uids)) (securebitsInRange (c .securebits)) h in
+    five (effectivePermitted (c .sets)) (ambientHeld (c .sets)) (noBitAbove40 (c .sets)) (idsInRange (c .uids)) (idsInRange (c .gids))
+    (and-l (setsAndIds c) (securebitsInRange (c .securebits)) h) in
     record {
       sets = valid-sets (c .sets) (f .first) (f .second) (f .third);
       uids = valid-ids (c .uids) (f .fourth);
-      securebits-small = leb-true (c .securebits) 255 (f .fifth);
+      gids = valid-ids (c .gids) (f .fifth);
+      securebits-small = leb-true (c .securebits) 255 (and-r (setsAndIds c) (securebitsInRange (c .securebits)) h);
     }
 
 pub facts-valid : (c : Credentials) → Valid c → valid c ≡ true
 unfolding valid
 facts-valid c v =
-    all-five
+    and-i (setsAndIds c) (securebitsInRange (c .securebits))
+    (all-five
     (record {
       first = sub-within (v .sets .effective-permitted);
       second = ambient-held (c .sets) (v .sets);
       third = no-bit-above-40 (c .sets) (v .sets);
       fourth = ids-in-range (c .uids) (v .uids);
-      fifth = le-leb (c .securebits) 255 (v .securebits-small);
-    })
+      fifth = ids-in-range (c .gids) (v .gids);
+    }))
+    (le-leb (c .securebits) 255 (v .securebits-small))

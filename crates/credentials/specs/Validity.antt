@@ -28,7 +28,7 @@ noBitAbove40 s =
 abbrev pub idInRange : ℕ → Bool
 idInRange n = leb n 4294967294
 
--- each of the four IDs is
+-- each of four user or group IDs is
 abbrev pub idsInRange : Ids → Bool
 idsInRange u = idInRange (u .real) && idInRange (u .effective) && idInRange (u .saved) && idInRange (u .filesystem)
 
@@ -43,4 +43,5 @@ valid c =
     && ambientHeld (c .sets)
     && noBitAbove40 (c .sets)
     && idsInRange (c .uids)
+    && idsInRange (c .gids)
     && securebitsInRange (c .securebits)

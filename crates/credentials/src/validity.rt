@@ -6,7 +6,7 @@ use capabilities::sets;
 ghost use mathlib.Core.Path.{_≡_};
 ghost use Rattle.credentials.specs.Validity.{ambientHeld, idsInRange, noBitAbove40, valid};
 
-// The largest user ID.
+// The largest user or group ID.
 pub const LARGEST_ID: u64 = 4294967294;
 
 // All eight securebits.
@@ -17,11 +17,11 @@ pub fn is_valid(given: Credentials) -> bool
     ensures { λ r. ⌜ r ≡ valid given ⌝ }
 {
     let held = given.sets;
-    let uids = given.uids;
     sets::is_within(held.effective, held.permitted)
         & ambient_is_held(held)
         & has_no_bit_above_40(held)
-        & ids_are_in_range(uids)
+        & ids_are_in_range(given.uids)
+        & ids_are_in_range(given.gids)
         & (given.securebits <= LARGEST_SECUREBITS)
 }
 
@@ -41,11 +41,11 @@ fn has_no_bit_above_40(held: Sets) -> bool
         & sets::is_within(held.ambient, sets::FULL)
 }
 
-fn ids_are_in_range(uids: Ids) -> bool
-    ensures { λ r. ⌜ r ≡ idsInRange uids ⌝ }
+fn ids_are_in_range(ids: Ids) -> bool
+    ensures { λ r. ⌜ r ≡ idsInRange ids ⌝ }
 {
-    (uids.real <= LARGEST_ID)
-        & (uids.effective <= LARGEST_ID)
-        & (uids.saved <= LARGEST_ID)
-        & (uids.filesystem <= LARGEST_ID)
+    (ids.real <= LARGEST_ID)
+        & (ids.effective <= LARGEST_ID)
+        & (ids.saved <= LARGEST_ID)
+        & (ids.filesystem <= LARGEST_ID)
 }

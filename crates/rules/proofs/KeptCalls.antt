@@ -18,43 +18,47 @@ use Rattle.credentials.specs.declared.Ids.{Ids}
 use Rattle.credentials.specs.declared.Sets.{Sets}
 use Rattle.credentials.specs.declared.Credentials.{Credentials}
 use Rattle.credentials.proofs.Valid.{Valid, ValidIds}
-use Rattle.rules.specs.Fields.{withSets}
+use Rattle.rules.specs.Fields.{withGids, withSets}
 use Rattle.rules.specs.Answers.{code, after}
-use Rattle.rules.specs.Launching.{SET-USER-ID, effectiveId, fallsShort, fileRead, inForce, isPrivileged, launch, launched, launchedAmbient, launchedIds, launchOf}
+use Rattle.rules.specs.Launching.{SET-GROUP-ID, SET-USER-ID, fallsShort, fileRead, inForce, isPrivileged, launch, launched, launchedAmbient, launchOf}
 use Rattle.rules.specs.Capset.{beyondBounding, beyondPermitted, capset, effectiveExceeds, permittedGrows}
 use Rattle.rules.specs.Bounding.{boundingDrop, boundingRead}
 use Rattle.rules.specs.Ambient.{ambientClearAll, ambientIsSet, ambientLower, ambientRaise, notInBoth, raiseForbidden}
 use Rattle.rules.specs.Securebits.{changesLocked, getSecurebits, setSecurebits, undoesLock}
 use Rattle.rules.specs.ThreadFlags.{getKeepCaps, getNoNewPrivs, keepCapsLocked, setKeepCaps, setNoNewPrivs}
-use Rattle.rules.specs.Ids.{NO-ID, givenOr, isGiven, maySetAnyUserId, setfsuid, setfsuidChanges, setresuid, setresuidAllowed, setresuidIds, setreuid, setreuidAllowed, setreuidIds, setreuidSaved, setreuidSaves, setuid, setuidAllowed, setuidIds, userIdsChanged}
+use Rattle.rules.specs.Ids.{filesystemGroupIdChanged, filesystemUserIdChanged, groupIdsChanged, maySetAnyGroupId, maySetAnyUserId, setfsgid, setfsuid, setfsuidOn, setgid, setregid, setresgid, setresuid, setresuidOn, setreuid, setreuidOn, setuid, setuidOn, userIdsChanged}
 use Rattle.rules.specs.Decoding.{capabilityInRange, decode, flagsInRange, idOrNone, known, usesOne, usesThree, usesTwo}
 use Rattle.rules.specs.Call.{answer, decoded, performed}
 use Rattle.rules.specs.declared.Answer.{Answer}
 use Rattle.rules.specs.declared.Answer.the-variants.{Done, InvalidArgument, InvalidCredentials, NotPermitted, UnreadableAttribute}
 use Rattle.rules.specs.declared.Call.{Call}
 use Rattle.rules.specs.declared.Decoded.{Decoded}
+use Rattle.rules.specs.declared.NewIds.{NewIds}
+use Rattle.rules.specs.declared.NewIds.the-variants.{Allowed, NotAllowed}
 use Rattle.rules.proofs.Conditions.{cond-cases, cond-with}
+use Rattle.rules.proofs.KeptIds.{NewValid, launched-valid, setfsuid-valid, setresuid-valid, setreuid-valid, setuid-valid}
 use Rattle.rules.proofs.KeptSets.{SetsKept, kept-after, kept-after-filesystem, kept-ambient, kept-bounding, kept-capset, kept-launched, kept-same, kept-then, kept-valid}
 use Rattle.rules.proofs.KeptSecurebits.{BitsKept, bits-keep-caps, bits-launched, bits-same, bits-set, bits-then}
 
 -- the credentials d later, after the credentials c; launched: by way of a launch that was done
 pub record Kept (launched : Bool) (c d : Credentials) : Type 0 where
   pub uids : ValidIds (d .uids)
+  pub gids : ValidIds (d .gids)
   pub sets : SetsKept (c .sets) (d .sets)
   pub securebits : BitsKept launched (c .securebits) (d .securebits)
 
 -- what follows valid credentials is valid
 pub still-valid : {x : Bool} {c d : Credentials} → Valid c → Kept x c d → Valid d
-still-valid v k = record { sets = kept-valid (v .sets) (k .sets); uids = k .uids; securebits-small = k .securebits .small }
+still-valid v k = record { sets = kept-valid (v .sets) (k .sets); uids = k .uids; gids = k .gids; securebits-small = k .securebits .small }
 
 pub nothing-changes : {c : Credentials} → Valid c → Kept false c c
-nothing-changes v = record { uids = v .uids; sets = kept-same (v .sets); securebits = bits-same (v .securebits-small) }
+nothing-changes v = record { uids = v .uids; gids = v .gids; sets = kept-same (v .sets); securebits = bits-same (v .securebits-small) }
 
 pub one-after-another : {x y : Bool} {c d e : Credentials} → Kept x c d → Kept y d e → Kept (x || y) c e
-one-after-another h k = record { uids = k .uids; sets = kept-then (h .sets) (k .sets); securebits = bits-then (h .securebits) (k .securebits) }
+one-after-another h k = record { uids = k .uids; gids = k .gids; sets = kept-then (h .sets) (k .sets); securebits = bits-then (h .securebits) (k .securebits) }
 
 sets-change : {c : Credentials} {s : Sets} → Valid c → SetsKept (c .sets) s → Kept false c (withSets c s)
-sets-change v h = record { uids = v .uids; sets = h; securebits = bits-same (v .securebits-small) }
+sets-change v h = record { uids = v .uids; gids = v .gids; sets = h; securebits = bits-same (v .securebits-small) }
 
 -- an answer that is done keeps what is to be kept
 abbrev Keeps : Bool → Credentials → Answer → Type 0
@@ -76,20 +80,6 @@ kept-by v true UnreadableAttribute k = nothing-changes v
 kept-by v false UnreadableAttribute k = nothing-changes v
 kept-by v true InvalidCredentials k = nothing-changes v
 kept-by v false InvalidCredentials k = nothing-changes v
-
--- ---- the operands' ranges
-
-id-given : (id : ℕ) → idOrNone id ≡ true → (id ≡ NO-ID → ⊥) → id ≤ 4294967294
-id-given id h g = let k : id ≤ 4294967295 = leb-true id NO-ID h in omega arith
-
-given-small : (old id : ℕ) → old ≤ 4294967294 → idOrNone id ≡ true → givenOr old id ≤ 4294967294
-unfolding givenOr
-given-small old id h k =
-    cond-cases (λ (x : ℕ). x ≤ 4294967294) (eqb id NO-ID) _ _ (λ e. h) (λ e. id-given id k (eqb-false id NO-ID e))
-
-either-small : (t : Bool) (x y : ℕ) → x ≤ 4294967294 → y ≤ 4294967294 → cond t x y ≤ 4294967294
-either-small true x y h k = h
-either-small false x y h k = k
 
 module _ (c : Credentials) (v : Valid c) where
   -- ---- calls 2 to 8
@@ -161,103 +151,62 @@ module _ (c : Credentials) (v : Valid c) where
       cond-cases (Keeps false c) (lacks (c .sets .effective) CAP-SETPCAP) _ _ (λ h. tt)
       (λ h. cond-cases (Keeps false c) (undoesLock (c .securebits) new) _ _ (λ k. tt)
       (λ u. cond-cases (Keeps false c) (changesLocked (c .securebits) new) _ _ (λ k. tt)
-      (λ e. record { uids = v .uids; sets = kept-same (v .sets); securebits = bits-set (c .securebits) new l u e })))
+      (λ e. record { uids = v .uids; gids = v .gids; sets = kept-same (v .sets); securebits = bits-set (c .securebits) new l u e })))
 
   keep-caps-keeps : (on : Bool) → Keeps false c (setKeepCaps c on)
   unfolding setKeepCaps
   keep-caps-keeps on =
       cond-cases (Keeps false c) (keepCapsLocked (c .securebits)) _ _ (λ h. tt)
-      (λ h. record { uids = v .uids; sets = kept-same (v .sets); securebits = bits-keep-caps (c .securebits) on (v .securebits-small) h })
+      (λ h. record { uids = v .uids; gids = v .gids; sets = kept-same (v .sets); securebits = bits-keep-caps (c .securebits) on (v .securebits-small) h })
 
   nnp-keeps : Keeps false c (setNoNewPrivs c)
   unfolding setNoNewPrivs
-  nnp-keeps = record { uids = v .uids; sets = kept-same (v .sets); securebits = bits-same (v .securebits-small) }
+  nnp-keeps = record { uids = v .uids; gids = v .gids; sets = kept-same (v .sets); securebits = bits-same (v .securebits-small) }
 
-  -- ---- calls 15 to 18
+  -- ---- calls 15 to 22
 
-  ids-keep : (new : Ids) → ValidIds new → Keeps false c (userIdsChanged c new)
-  unfolding userIdsChanged
-  ids-keep new w = record { uids = w; sets = kept-after (c .uids) new (v .sets) (c .securebits); securebits = bits-same (v .securebits-small) }
+  user-ids-keep : (n : NewIds) → NewValid n → Keeps false c (userIdsChanged c n)
+  user-ids-keep (Allowed new) w =
+      record { uids = w; gids = v .gids; sets = kept-after (c .uids) new (v .sets) (c .securebits); securebits = bits-same (v .securebits-small) }
+  user-ids-keep NotAllowed w = tt
 
-  setuid-keeps : (id : ℕ) → id ≤ 4294967294 → Keeps false c (setuid c id)
-  unfolding setuid setuidIds
-  setuid-keeps id h =
-      let any = maySetAnyUserId c in
-      cond-cases (Keeps false c) (setuidAllowed any (c .uids) id) _ _
-      (λ k. ids-keep _
-      (record {
-        real-small = either-small any id (c .uids .real) h (v .uids .real-small);
-        effective-small = h;
-        saved-small = either-small any id (c .uids .saved) h (v .uids .saved-small);
-        filesystem-small = h;
-      }))
-      (λ k. tt)
+  filesystem-user-id-keeps : (n : NewIds) → NewValid n → Keeps false c (filesystemUserIdChanged c n)
+  filesystem-user-id-keeps (Allowed new) w =
+      record { uids = w; gids = v .gids; sets = kept-after-filesystem (c .uids) new (v .sets) (c .securebits); securebits = bits-same (v .securebits-small) }
+  filesystem-user-id-keeps NotAllowed w = nothing-changes v
 
-  setreuid-keeps : (r e : ℕ) → idOrNone r ≡ true → idOrNone e ≡ true → Keeps false c (setreuid c r e)
-  unfolding setreuid setreuidIds setreuidSaved
-  setreuid-keeps r e hr he =
-      let effective = given-small (c .uids .effective) e (v .uids .effective-small) he in
-      cond-cases (Keeps false c) (setreuidAllowed (maySetAnyUserId c) (c .uids) (setreuidIds (c .uids) r e)) _ _
-      (λ k. ids-keep _
-      (record {
-        real-small = given-small (c .uids .real) r (v .uids .real-small) hr;
-        effective-small = effective;
-        saved-small = either-small (setreuidSaves (c .uids) r e) (givenOr (c .uids .effective) e) (c .uids .saved) effective (v .uids .saved-small);
-        filesystem-small = effective;
-      }))
-      (λ k. tt)
+  groups-change : {g : Ids} → ValidIds g → Kept false c (withGids c g)
+  groups-change w = record { uids = v .uids; gids = w; sets = kept-same (v .sets); securebits = bits-same (v .securebits-small) }
 
-  setresuid-keeps : (r e s : ℕ) → idOrNone r ≡ true → idOrNone e ≡ true → idOrNone s ≡ true → Keeps false c (setresuid c r e s)
-  unfolding setresuid setresuidIds
-  setresuid-keeps r e s hr he hs =
-      let effective = given-small (c .uids .effective) e (v .uids .effective-small) he in
-      cond-cases (Keeps false c) (setresuidAllowed (maySetAnyUserId c) (c .uids) (setresuidIds (c .uids) r e s)) _ _
-      (λ k. ids-keep _
-      (record {
-        real-small = given-small (c .uids .real) r (v .uids .real-small) hr;
-        effective-small = effective;
-        saved-small = given-small (c .uids .saved) s (v .uids .saved-small) hs;
-        filesystem-small = effective;
-      }))
-      (λ k. tt)
+  group-ids-keep : (n : NewIds) → NewValid n → Keeps false c (groupIdsChanged c n)
+  group-ids-keep (Allowed new) w = groups-change w
+  group-ids-keep NotAllowed w = tt
 
-  setfsuid-keeps : (id : ℕ) → idOrNone id ≡ true → Keeps false c (setfsuid c id)
-  unfolding setfsuid setfsuidChanges
-  setfsuid-keeps id h =
-      cond-cases (Keeps false c) (setfsuidChanges (maySetAnyUserId c) (c .uids) id) _ _
-      (λ k. record {
-        uids = record {
-          real-small = v .uids .real-small;
-          effective-small = v .uids .effective-small;
-          saved-small = v .uids .saved-small;
-          filesystem-small = id-given id h (eqb-false id NO-ID (not-true _ (and-l (isGiven id) _ k)));
-        };
-        sets = kept-after-filesystem (c .uids) _ (v .sets) (c .securebits);
-        securebits = bits-same (v .securebits-small);
-      })
-      (λ k. nothing-changes v)
+  filesystem-group-id-keeps : (n : NewIds) → NewValid n → Keeps false c (filesystemGroupIdChanged c n)
+  filesystem-group-id-keeps (Allowed new) w = groups-change w
+  filesystem-group-id-keeps NotAllowed w = nothing-changes v
 
   -- ---- call 1
 
-  launched-keeps : (owner flags : ℕ) → owner ≤ 4294967294 → (f : FileCapabilities) → Kept true c (launched c owner flags f)
-  unfolding launched launchedIds effectiveId launchedAmbient
-  launched-keeps owner flags h f =
-      let effective = either-small (inForce (c .nnp) flags SET-USER-ID) owner (c .uids .effective) h (v .uids .effective-small) in
+  launched-keeps : (owner flags group : ℕ) → owner ≤ 4294967294 → group ≤ 4294967294 → (f : FileCapabilities) → Kept true c (launched c owner flags group f)
+  unfolding launched launchedAmbient
+  launched-keeps owner flags group ho hg f =
       record {
-        uids = record { real-small = v .uids .real-small; effective-small = effective; saved-small = effective; filesystem-small = effective };
+        uids = launched-valid (inForce (c .nnp) flags SET-USER-ID) owner (c .uids) ho (v .uids);
+        gids = launched-valid (inForce (c .nnp) flags SET-GROUP-ID) group (c .gids) hg (v .gids);
         sets = kept-launched _ _
             (cond-cases (λ (a : ℕ). Within a (c .sets .inheritable)) (isPrivileged (c .nnp) flags f) _ _ (λ k. none-sub) (λ k. v .sets .ambient-inheritable));
         securebits = bits-launched (c .securebits) (v .securebits-small);
       }
 
-  launch-of-keeps : (owner flags : ℕ) → owner ≤ 4294967294 → (r : Reading) → Keeps true c (launchOf c owner flags r)
-  launch-of-keeps owner flags h (File f) =
-      cond-cases (Keeps true c) (fallsShort (c .sets) f) _ _ (λ k. tt) (λ k. launched-keeps owner flags h f)
-  launch-of-keeps owner flags h Unreadable = tt
+  launch-of-keeps : (owner flags group : ℕ) → owner ≤ 4294967294 → group ≤ 4294967294 → (r : Reading) → Keeps true c (launchOf c owner flags group r)
+  launch-of-keeps owner flags group ho hg (File f) =
+      cond-cases (Keeps true c) (fallsShort (c .sets) f) _ _ (λ k. tt) (λ k. launched-keeps owner flags group ho hg f)
+  launch-of-keeps owner flags group ho hg Unreadable = tt
 
-  launch-keeps : (owner flags : ℕ) → owner ≤ 4294967294 → (attribute : List ℕ) → Keeps true c (launch c owner flags attribute)
+  launch-keeps : (owner flags group : ℕ) → owner ≤ 4294967294 → group ≤ 4294967294 → (attribute : List ℕ) → Keeps true c (launch c owner flags group attribute)
   unfolding launch
-  launch-keeps owner flags h attribute = launch-of-keeps owner flags h (fileRead (c .nnp) flags attribute)
+  launch-keeps owner flags group ho hg attribute = launch-of-keeps owner flags group ho hg (fileRead (c .nnp) flags attribute)
 
   -- ---- any number, operands and attribute
 
@@ -273,38 +222,102 @@ module _ (c : Credentials) (v : Valid c) where
     or-else : (this right : Bool) (k : Call) (d : Decoded) → (right ≡ true → Keeps false c (performed c s k)) → Goes false d → Goes false (cond this (known right k) d)
     or-else this right k d h g = cond-cases (Goes false) this _ _ (λ t. when-known false right k h) (λ t. g)
 
-    decode-keeps : (number x y z size : ℕ) → Goes (eqb number 1) (decode number x y z size)
-    unfolding decode
-    decode-keeps number x y z size =
-        cond-with Goes (eqb number 1) _ _
-        (when-known true _ _
-        (λ t. launch-keeps x y (leb-true x 4294967294 (and-l (idInRange x) (flagsInRange y) (and-l (idInRange x && flagsInRange y) (eqb z 0) t))) s))
-        (or-else (eqb number 2) _ _ _ (λ t. capset-keeps x y z)
-        (or-else (eqb number 3) _ _ _ (λ t. drop-keeps x)
-        (or-else (eqb number 4) _ _ _ (λ t. read-keeps x)
-        (or-else (eqb number 5) _ _ _ (λ t. raise-keeps x (leb-true x 40 (and-r (usesOne y z size) (capabilityInRange x) t)))
-        (or-else (eqb number 6) _ _ _ (λ t. lower-keeps x)
-        (or-else (eqb number 7) _ _ _ (λ t. is-set-keeps x)
-        (or-else (eqb number 8) _ _ _ (λ t. clear-keeps)
-        (or-else (eqb number 9) _ _ _ (λ t. securebits-keeps x (leb-true x 255 (and-r (usesOne y z size) (securebitsInRange x) t)))
-        (or-else (eqb number 10) _ _ _ (λ t. get-securebits-keeps)
-        (or-else (eqb number 11) _ _ _ (λ t. keep-caps-keeps (eqb x 1))
-        (or-else (eqb number 12) _ _ _ (λ t. get-keep-caps-keeps)
-        (or-else (eqb number 13) _ _ _ (λ t. nnp-keeps)
-        (or-else (eqb number 14) _ _ _ (λ t. get-nnp-keeps)
-        (or-else (eqb number 15) _ _ _ (λ t. setuid-keeps x (leb-true x 4294967294 (and-r (usesOne y z size) (idInRange x) t)))
-        (or-else (eqb number 16) _ _ _
-        (λ t. setreuid-keeps x y (and-r (usesTwo z size) (idOrNone x) (and-l (usesTwo z size && idOrNone x) (idOrNone y) t))
-        (and-r (usesTwo z size && idOrNone x) (idOrNone y) t))
-        (or-else (eqb number 17) _ _ _
-        (λ t. let xy = and-l (usesThree size && idOrNone x && idOrNone y) (idOrNone z) t in
-        setresuid-keeps x y z (and-r (usesThree size) (idOrNone x) (and-l (usesThree size && idOrNone x) (idOrNone y) xy))
-        (and-r (usesThree size && idOrNone x) (idOrNone y) xy)
-        (and-r (usesThree size && idOrNone x && idOrNone y) (idOrNone z) t))
-        (or-else (eqb number 18) _ _ _ (λ t. setfsuid-keeps x (and-r (usesOne y z size) (idOrNone x) t))
-        tt)))))))))))))))))
+    module _ (x y z size : ℕ) where
+      -- the operands of calls 15 to 22 that are right, for any four valid IDs
+
+      abbrev one : Bool
+      one = usesOne y z size
+
+      abbrev two : Bool
+      two = usesTwo z size && idOrNone x
+
+      abbrev three : Bool
+      three = usesThree size && idOrNone x && idOrNone y
+
+      module _ (any : Bool) (u : Ids) (w : ValidIds u) where
+        setuid-right : one && idInRange x ≡ true → NewValid (setuidOn any u x)
+        setuid-right t = setuid-valid any u w x (leb-true x 4294967294 (and-r one (idInRange x) t))
+
+        setreuid-right : two && idOrNone y ≡ true → NewValid (setreuidOn any u x y)
+        setreuid-right t = setreuid-valid any u w x y (and-r (usesTwo z size) (idOrNone x) (and-l two (idOrNone y) t)) (and-r two (idOrNone y) t)
+
+        setresuid-right : three && idOrNone z ≡ true → NewValid (setresuidOn any u x y z)
+        setresuid-right t =
+            let xy = and-l three (idOrNone z) t in
+            setresuid-valid any u w x y z (and-r (usesThree size) (idOrNone x) (and-l (usesThree size && idOrNone x) (idOrNone y) xy))
+            (and-r (usesThree size && idOrNone x) (idOrNone y) xy)
+            (and-r three (idOrNone z) t)
+
+        setfsuid-right : one && idOrNone x ≡ true → NewValid (setfsuidOn any u x)
+        setfsuid-right t = setfsuid-valid any u w x (and-r one (idOrNone x) t)
+
+      setuid-keeps : one && idInRange x ≡ true → Keeps false c (setuid c x)
+      unfolding setuid
+      setuid-keeps t = user-ids-keep (setuidOn (maySetAnyUserId c) (c .uids) x) (setuid-right (maySetAnyUserId c) (c .uids) (v .uids) t)
+
+      setreuid-keeps : two && idOrNone y ≡ true → Keeps false c (setreuid c x y)
+      unfolding setreuid
+      setreuid-keeps t = user-ids-keep (setreuidOn (maySetAnyUserId c) (c .uids) x y) (setreuid-right (maySetAnyUserId c) (c .uids) (v .uids) t)
+
+      setresuid-keeps : three && idOrNone z ≡ true → Keeps false c (setresuid c x y z)
+      unfolding setresuid
+      setresuid-keeps t = user-ids-keep (setresuidOn (maySetAnyUserId c) (c .uids) x y z) (setresuid-right (maySetAnyUserId c) (c .uids) (v .uids) t)
+
+      setfsuid-keeps : one && idOrNone x ≡ true → Keeps false c (setfsuid c x)
+      unfolding setfsuid
+      setfsuid-keeps t = filesystem-user-id-keeps (setfsuidOn (maySetAnyUserId c) (c .uids) x) (setfsuid-right (maySetAnyUserId c) (c .uids) (v .uids) t)
+
+      setgid-keeps : one && idInRange x ≡ true → Keeps false c (setgid c x)
+      unfolding setgid
+      setgid-keeps t = group-ids-keep (setuidOn (maySetAnyGroupId c) (c .gids) x) (setuid-right (maySetAnyGroupId c) (c .gids) (v .gids) t)
+
+      setregid-keeps : two && idOrNone y ≡ true → Keeps false c (setregid c x y)
+      unfolding setregid
+      setregid-keeps t = group-ids-keep (setreuidOn (maySetAnyGroupId c) (c .gids) x y) (setreuid-right (maySetAnyGroupId c) (c .gids) (v .gids) t)
+
+      setresgid-keeps : three && idOrNone z ≡ true → Keeps false c (setresgid c x y z)
+      unfolding setresgid
+      setresgid-keeps t = group-ids-keep (setresuidOn (maySetAnyGroupId c) (c .gids) x y z) (setresuid-right (maySetAnyGroupId c) (c .gids) (v .gids) t)
+
+      setfsgid-keeps : one && idOrNone x ≡ true → Keeps false c (setfsgid c x)
+      unfolding setfsgid
+      setfsgid-keeps t = filesystem-group-id-keeps (setfsuidOn (maySetAnyGroupId c) (c .gids) x) (setfsuid-right (maySetAnyGroupId c) (c .gids) (v .gids) t)
+
+      launch-right : idInRange x && flagsInRange y && idInRange z ≡ true → Keeps true c (launch c x y z s)
+      launch-right t =
+          launch-keeps x y z
+          (leb-true x 4294967294 (and-l (idInRange x) (flagsInRange y) (and-l (idInRange x && flagsInRange y) (idInRange z) t)))
+          (leb-true z 4294967294 (and-r (idInRange x && flagsInRange y) (idInRange z) t)) s
+
+      decode-keeps : (number : ℕ) → Goes (eqb number 1) (decode number x y z size)
+      unfolding decode
+      decode-keeps number =
+          cond-with Goes (eqb number 1) _ _
+          (when-known true _ _ launch-right)
+          (or-else (eqb number 2) _ _ _ (λ t. capset-keeps x y z)
+          (or-else (eqb number 3) _ _ _ (λ t. drop-keeps x)
+          (or-else (eqb number 4) _ _ _ (λ t. read-keeps x)
+          (or-else (eqb number 5) _ _ _ (λ t. raise-keeps x (leb-true x 40 (and-r one (capabilityInRange x) t)))
+          (or-else (eqb number 6) _ _ _ (λ t. lower-keeps x)
+          (or-else (eqb number 7) _ _ _ (λ t. is-set-keeps x)
+          (or-else (eqb number 8) _ _ _ (λ t. clear-keeps)
+          (or-else (eqb number 9) _ _ _ (λ t. securebits-keeps x (leb-true x 255 (and-r one (securebitsInRange x) t)))
+          (or-else (eqb number 10) _ _ _ (λ t. get-securebits-keeps)
+          (or-else (eqb number 11) _ _ _ (λ t. keep-caps-keeps (eqb x 1))
+          (or-else (eqb number 12) _ _ _ (λ t. get-keep-caps-keeps)
+          (or-else (eqb number 13) _ _ _ (λ t. nnp-keeps)
+          (or-else (eqb number 14) _ _ _ (λ t. get-nnp-keeps)
+          (or-else (eqb number 15) _ _ _ setuid-keeps
+          (or-else (eqb number 16) _ _ _ setreuid-keeps
+          (or-else (eqb number 17) _ _ _ setresuid-keeps
+          (or-else (eqb number 18) _ _ _ setfsuid-keeps
+          (or-else (eqb number 19) _ _ _ setgid-keeps
+          (or-else (eqb number 20) _ _ _ setregid-keeps
+          (or-else (eqb number 21) _ _ _ setresgid-keeps
+          (or-else (eqb number 22) _ _ _ setfsgid-keeps
+          tt)))))))))))))))))))))
 
     pub answer-keeps : (number x y z : ℕ) → Keeps (eqb number 1) c (answer c number x y z s)
     unfolding answer
     answer-keeps number x y z =
-        cond-cases (Keeps (eqb number 1) c) (valid c) _ _ (λ h. decode-keeps number x y z (length s)) (λ h. tt)
+        cond-cases (Keeps (eqb number 1) c) (valid c) _ _ (λ h. decode-keeps x y z (length s) number) (λ h. tt)

@@ -1,9 +1,11 @@
 pub mod Cases
 pub mod Conditions
 pub mod FilesystemId
+pub mod KeptIds
 pub mod KeptSets
 pub mod KeptSecurebits
 pub mod KeptCalls
 pub mod OneLaunch
 pub mod Demand3
+pub mod IdCalls
 pub mod Flags

@@ -67,11 +67,11 @@ module _ (n : ℕ) (l : Has full n) where
       (λ m. in-union-r (inter (s .inheritable) (f .inheritable)) (in-inter p m)))
 
   module _ (start : Credentials) (v : valid start ≡ true) (clear : start .nnp ≡ false) where
-    launch-done : answer start 1 0 0 0 grant ≡ Done 0 (launched start 0 0 granting)
+    launch-done : answer start 1 0 0 0 grant ≡ Done 0 (launched start 0 0 0 granting)
     unfolding answer decode known launch fileRead ignoresAttribute ignoresSetId fallsShort
     launch-done = simp (v, clear, grant-reads)
 
-    permits : Has (union (start .sets .inheritable) (start .sets .bounding)) n → Has (launched start 0 0 granting .sets .permitted) n
+    permits : Has (union (start .sets .inheritable) (start .sets .bounding)) n → Has (launched start 0 0 0 granting .sets .permitted) n
     unfolding launched counted
     permits h =
         launched-has (start .sets) _ _ (counted-has (start .securebits) _ granting (single n) (in-single n-small))

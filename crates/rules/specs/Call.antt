@@ -11,18 +11,18 @@ use Rattle.rules.specs.Bounding.{boundingDrop, boundingRead}
 use Rattle.rules.specs.Ambient.{ambientRaise, ambientLower, ambientIsSet, ambientClearAll}
 use Rattle.rules.specs.Securebits.{setSecurebits, getSecurebits}
 use Rattle.rules.specs.ThreadFlags.{setKeepCaps, getKeepCaps, setNoNewPrivs, getNoNewPrivs}
-use Rattle.rules.specs.Ids.{setuid, setreuid, setresuid, setfsuid}
+use Rattle.rules.specs.Ids.{setuid, setreuid, setresuid, setfsuid, setgid, setregid, setresgid, setfsgid}
 use Rattle.rules.specs.Decoding.{decode}
 use Rattle.rules.specs.declared.Answer.{Answer}
 use Rattle.rules.specs.declared.Answer.the-variants.{InvalidArgument, InvalidCredentials}
 use Rattle.rules.specs.declared.Call.{Call}
-use Rattle.rules.specs.declared.Call.the-variants.{Execve, Capset, BoundingDrop, BoundingRead, AmbientRaise, AmbientLower, AmbientIsSet, AmbientClearAll, SetSecurebits, GetSecurebits, SetKeepCaps, GetKeepCaps, SetNoNewPrivs, GetNoNewPrivs, Setuid, Setreuid, Setresuid, Setfsuid}
+use Rattle.rules.specs.declared.Call.the-variants.{Execve, Capset, BoundingDrop, BoundingRead, AmbientRaise, AmbientLower, AmbientIsSet, AmbientClearAll, SetSecurebits, GetSecurebits, SetKeepCaps, GetKeepCaps, SetNoNewPrivs, GetNoNewPrivs, Setuid, Setreuid, Setresuid, Setfsuid, Setgid, Setregid, Setresgid, Setfsgid}
 use Rattle.rules.specs.declared.Decoded.{Decoded}
 use Rattle.rules.specs.declared.Decoded.the-variants.{Known, Unknown}
 
 -- 60 and 1: what a call that is known does, by its own rules
 abbrev pub performed : Credentials → List ℕ → Call → Answer
-performed start attribute (Execve owner flags) = launch start owner flags attribute
+performed start attribute (Execve owner flags group) = launch start owner flags group attribute
 performed start attribute (Capset p i e) = capset start p i e
 performed start attribute (BoundingDrop n) = boundingDrop start n
 performed start attribute (BoundingRead n) = boundingRead start n
@@ -40,6 +40,10 @@ performed start attribute (Setuid id) = setuid start id
 performed start attribute (Setreuid r e) = setreuid start r e
 performed start attribute (Setresuid r e s) = setresuid start r e s
 performed start attribute (Setfsuid id) = setfsuid start id
+performed start attribute (Setgid id) = setgid start id
+performed start attribute (Setregid r e) = setregid start r e
+performed start attribute (Setresgid r e s) = setresgid start r e s
+performed start attribute (Setfsgid id) = setfsgid start id
 
 -- 22 before them: number, operands and attribute make no call
 abbrev pub decoded : Credentials → List ℕ → Decoded → Answer

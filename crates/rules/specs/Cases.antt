@@ -20,18 +20,18 @@ pub record Case : Type 0 where
 
 -- ---- how the rows are written
 
--- the four user IDs, and the five sets P, I, E, B and A
+-- four IDs, and the five sets P, I, E, B and A
 abbrev ids : ℕ → ℕ → ℕ → ℕ → Ids
 ids real effective saved filesystem = record { real = real; effective = effective; saved = saved; filesystem = filesystem }
 
 abbrev sets : ℕ → ℕ → ℕ → ℕ → ℕ → Sets
 sets p i e b a = record { permitted = p; inheritable = i; effective = e; bounding = b; ambient = a }
 
--- unless said: IDs 1000, B full, other sets empty, securebits 0, no-new-privs clear
+-- unless said: user and group IDs 1000, B full, other sets empty, securebits 0, no-new-privs clear
 abbrev usual : Credentials
-usual = record { uids = ids 1000 1000 1000 1000; sets = sets 0 0 0 full 0; securebits = 0; nnp = false }
+usual = record { uids = ids 1000 1000 1000 1000; gids = ids 1000 1000 1000 1000; sets = sets 0 0 0 full 0; securebits = 0; nnp = false }
 
--- the same with IDs 0
+-- the same with user IDs 0
 abbrev root : Credentials
 root = withUids usual (ids 0 0 0 0)
 
@@ -39,7 +39,7 @@ root = withUids usual (ids 0 0 0 0)
 abbrev call : ℕ → ℕ → ℕ → ℕ → Step
 call number a b c = record { number = number; a = a; b = b; c = c; attribute = [] }
 
--- a launch of a file with owner 0, these flags and this attribute; plain: no flag and no attribute
+-- a launch of a file with owner and group 0, these flags and this attribute; plain: no flag and no attribute
 abbrev launch : ℕ → List ℕ → Step
 launch flags attribute = record { number = 1; a = 0; b = flags; c = 0; attribute = attribute }
 

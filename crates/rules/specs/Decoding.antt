@@ -1,4 +1,5 @@
--- "The eighteen calls", and refusal 22 of "What comes back": which numbers, operands and attributes make a call. Assumes nothing.
+-- "The eighteen calls" and four more on group IDs, and refusal 22 of "What comes back": which numbers, operands and attributes make a call. Assumes
+-- nothing.
 use Prim.Native.Nat.{ℕ}
 use mathlib.Core.Bool.{Bool, cond, _&&_}
 use lib.Dec.{eqb, leb}
@@ -6,7 +7,7 @@ use Rattle.capabilities.specs.Sets.{full, within}
 use Rattle.credentials.specs.Validity.{idInRange, securebitsInRange}
 use Rattle.rules.specs.Ids.{NO-ID}
 use Rattle.rules.specs.declared.Call.{Call}
-use Rattle.rules.specs.declared.Call.the-variants.{Execve, Capset, BoundingDrop, BoundingRead, AmbientRaise, AmbientLower, AmbientIsSet, AmbientClearAll, SetSecurebits, GetSecurebits, SetKeepCaps, GetKeepCaps, SetNoNewPrivs, GetNoNewPrivs, Setuid, Setreuid, Setresuid, Setfsuid}
+use Rattle.rules.specs.declared.Call.the-variants.{Execve, Capset, BoundingDrop, BoundingRead, AmbientRaise, AmbientLower, AmbientIsSet, AmbientClearAll, SetSecurebits, GetSecurebits, SetKeepCaps, GetKeepCaps, SetNoNewPrivs, GetNoNewPrivs, Setuid, Setreuid, Setresuid, Setfsuid, Setgid, Setregid, Setresgid, Setfsgid}
 use Rattle.rules.specs.declared.Decoded.{Decoded}
 use Rattle.rules.specs.declared.Decoded.the-variants.{Known, Unknown}
 
@@ -38,7 +39,7 @@ setInRange x = within x full
 abbrev pub flagsInRange : ℕ → Bool
 flagsInRange flags = leb flags 31
 
--- where 4294967295 may stand for no ID
+-- an ID, or 4294967295, which stands for none
 abbrev pub idOrNone : ℕ → Bool
 idOrNone id = leb id NO-ID
 
@@ -49,7 +50,7 @@ known right call = cond right (Known call) Unknown
 -- a number, the operands and the attribute's length as a call, or as none
 unfoldable pub decode : ℕ → ℕ → ℕ → ℕ → ℕ → Decoded
 decode number a b c size =
-    cond (eqb number 1) (known (idInRange a && flagsInRange b && eqb c 0) (Execve a b))
+    cond (eqb number 1) (known (idInRange a && flagsInRange b && idInRange c) (Execve a b c))
     (cond (eqb number 2) (known (usesThree size && setInRange a && setInRange b && setInRange c) (Capset a b c))
     (cond (eqb number 3) (known (usesOne b c size && capabilityInRange a) (BoundingDrop a))
     (cond (eqb number 4) (known (usesOne b c size && capabilityInRange a) (BoundingRead a))
@@ -67,4 +68,8 @@ decode number a b c size =
     (cond (eqb number 16) (known (usesTwo c size && idOrNone a && idOrNone b) (Setreuid a b))
     (cond (eqb number 17) (known (usesThree size && idOrNone a && idOrNone b && idOrNone c) (Setresuid a b c))
     (cond (eqb number 18) (known (usesOne b c size && idOrNone a) (Setfsuid a))
-    Unknown)))))))))))))))))
+    (cond (eqb number 19) (known (usesOne b c size && idInRange a) (Setgid a))
+    (cond (eqb number 20) (known (usesTwo c size && idOrNone a && idOrNone b) (Setregid a b))
+    (cond (eqb number 21) (known (usesThree size && idOrNone a && idOrNone b && idOrNone c) (Setresgid a b c))
+    (cond (eqb number 22) (known (usesOne b c size && idOrNone a) (Setfsgid a))
+    Unknown)))))))))))))))))))))

@@ -16,16 +16,19 @@ unfoldable pub number : Bool → ℕ
 number flag = cond flag 1 0
 
 abbrev pub withUids : Credentials → Ids → Credentials
-withUids c u = record { uids = u; sets = c .sets; securebits = c .securebits; nnp = c .nnp }
+withUids c u = record { uids = u; gids = c .gids; sets = c .sets; securebits = c .securebits; nnp = c .nnp }
+
+abbrev pub withGids : Credentials → Ids → Credentials
+withGids c g = record { uids = c .uids; gids = g; sets = c .sets; securebits = c .securebits; nnp = c .nnp }
 
 abbrev pub withSets : Credentials → Sets → Credentials
-withSets c s = record { uids = c .uids; sets = s; securebits = c .securebits; nnp = c .nnp }
+withSets c s = record { uids = c .uids; gids = c .gids; sets = s; securebits = c .securebits; nnp = c .nnp }
 
 abbrev pub withSecurebits : Credentials → ℕ → Credentials
-withSecurebits c b = record { uids = c .uids; sets = c .sets; securebits = b; nnp = c .nnp }
+withSecurebits c b = record { uids = c .uids; gids = c .gids; sets = c .sets; securebits = b; nnp = c .nnp }
 
 abbrev pub withNnp : Credentials → Bool → Credentials
-withNnp c flag = record { uids = c .uids; sets = c .sets; securebits = c .securebits; nnp = flag }
+withNnp c flag = record { uids = c .uids; gids = c .gids; sets = c .sets; securebits = c .securebits; nnp = flag }
 
 abbrev pub withPermitted : Sets → ℕ → Sets
 withPermitted s p = record { permitted = p; inheritable = s .inheritable; effective = s .effective; bounding = s .bounding; ambient = s .ambient }

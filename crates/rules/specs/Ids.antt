@@ -1,21 +1,24 @@
--- "The other rules", the ID calls 15 to 18: setuid(2), setreuid(2), setresuid(2), setfsuid(2). What an ID call allows and gives is a matter of
--- four IDs and of whether it may set any; what follows for the sets is of user IDs alone. Assumes nothing.
+-- "The other rules", the ID calls: 15 to 18, setuid(2), setreuid(2), setresuid(2), setfsuid(2), and by the same rules 19 to 22, setgid(2), setregid(2),
+-- setresgid(2), setfsgid(2). What an ID call allows and gives is a matter of four IDs and of whether it may set any; what follows for the sets is of
+-- user IDs alone. Assumes nothing.
 use Prim.Native.Nat.{ℕ}
 use mathlib.Core.Bool.{Bool, cond, not, _&&_, _||_}
 use lib.Dec.{eqb}
 use Rattle.capabilities.specs.Sets.{has, union, inter, minus}
-use Rattle.capabilities.specs.Header.{CAP-SETUID}
+use Rattle.capabilities.specs.Header.{CAP-SETGID, CAP-SETUID}
 use Rattle.credentials.specs.Securebits.{SECBIT-NO-SETUID-FIXUP, SECBIT-KEEP-CAPS}
 use Rattle.credentials.specs.declared.Ids.{Ids}
 use Rattle.credentials.specs.declared.Sets.{Sets}
 use Rattle.credentials.specs.declared.Credentials.{Credentials}
-use Rattle.rules.specs.Fields.{isSet, withAmbient, withEffective, withFilesystem, withPermitted, withSets, withUids}
+use Rattle.rules.specs.Fields.{isSet, withAmbient, withEffective, withFilesystem, withGids, withPermitted, withSets, withUids}
 use Rattle.rules.specs.declared.Answer.{Answer}
 use Rattle.rules.specs.declared.Answer.the-variants.{Done, NotPermitted}
+use Rattle.rules.specs.declared.NewIds.{NewIds}
+use Rattle.rules.specs.declared.NewIds.the-variants.{Allowed, NotAllowed}
 
 -- ---- "The eighteen calls": an operand that gives an ID, and one that gives none
 
--- in calls 16 to 18 this operand gives none
+-- in calls 16 to 18 and 20 to 22 this operand gives none
 abbrev pub NO-ID : ℕ
 NO-ID = 4294967295
 
@@ -26,25 +29,25 @@ isGiven operand = not (eqb operand NO-ID)
 unfoldable pub givenOr : ℕ → ℕ → ℕ
 givenOr old operand = cond (eqb operand NO-ID) old operand
 
--- ---- what each call allows and gives
+-- ---- what each call allows and gives, of user IDs with SETUID and of group IDs with SETGID: the flag says that it may set any
 
 -- one of real, effective and saved
 unfoldable pub oneOfThree : Ids → ℕ → Bool
 oneOfThree u id = eqb id (u .real) || eqb id (u .effective) || eqb id (u .saved)
 
--- with SETUID a thread may set any user ID
-abbrev pub maySetAnyUserId : Credentials → Bool
-maySetAnyUserId c = has (c .sets .effective) CAP-SETUID
-
--- setuid, without: the ID must be the real or the saved one
+-- setuid, where it may not set any: the ID must be the real or the saved one
 unfoldable pub setuidAllowed : Bool → Ids → ℕ → Bool
 setuidAllowed any u id = any || eqb id (u .real) || eqb id (u .saved)
 
--- setuid: with SETUID all four IDs change, without it the effective and the filesystem ID
+-- setuid: where it may set any all four IDs change, and else the effective and the filesystem ID
 unfoldable pub setuidIds : Bool → Ids → ℕ → Ids
 setuidIds any u id = record { real = cond any id (u .real); effective = id; saved = cond any id (u .saved); filesystem = id }
 
--- setreuid, without SETUID: real goes to real or effective, and effective to one of the three
+-- setuid on four IDs
+unfoldable pub setuidOn : Bool → Ids → ℕ → NewIds
+setuidOn any u id = cond (setuidAllowed any u id) (Allowed (setuidIds any u id)) NotAllowed
+
+-- setreuid, where it may not set any: real goes to real or effective, and effective to one of the three
 unfoldable pub setreuidAllowed : Bool → Ids → Ids → Bool
 setreuidAllowed any u new =
     any || (eqb (new .real) (u .real) || eqb (new .real) (u .effective)) && oneOfThree u (new .effective)
@@ -67,7 +70,11 @@ setreuidIds u r e =
       filesystem = givenOr (u .effective) e;
     }
 
--- setresuid, without SETUID: each goes to one of the three
+-- setreuid on four IDs
+unfoldable pub setreuidOn : Bool → Ids → ℕ → ℕ → NewIds
+setreuidOn any u r e = cond (setreuidAllowed any u (setreuidIds u r e)) (Allowed (setreuidIds u r e)) NotAllowed
+
+-- setresuid, where it may not set any: each goes to one of the three
 unfoldable pub setresuidAllowed : Bool → Ids → Ids → Bool
 setresuidAllowed any u new = any || oneOfThree u (new .real) && oneOfThree u (new .effective) && oneOfThree u (new .saved)
 
@@ -81,11 +88,19 @@ setresuidIds u r e s =
       filesystem = givenOr (u .effective) e;
     }
 
--- setfsuid: changes to any of the four, or with SETUID to any that is given
+-- setresuid on four IDs
+unfoldable pub setresuidOn : Bool → Ids → ℕ → ℕ → ℕ → NewIds
+setresuidOn any u r e s = cond (setresuidAllowed any u (setresuidIds u r e s)) (Allowed (setresuidIds u r e s)) NotAllowed
+
+-- setfsuid: changes to any of the four, or where it may set any to any that is given
 unfoldable pub setfsuidChanges : Bool → Ids → ℕ → Bool
 setfsuidChanges any u id = isGiven id && (any || oneOfThree u id || eqb id (u .filesystem))
 
--- ---- after an accepted ID call, unless NO_SETUID_FIXUP
+-- setfsuid on four IDs
+unfoldable pub setfsuidOn : Bool → Ids → ℕ → NewIds
+setfsuidOn any u id = cond (setfsuidChanges any u id) (Allowed (withFilesystem u id)) NotAllowed
+
+-- ---- after an accepted call on user IDs, unless NO_SETUID_FIXUP
 
 -- one of real, effective and saved is 0
 abbrev pub anyRoot : Ids → Bool
@@ -131,31 +146,63 @@ setsAfterFilesystem old new securebits s = cond (isSet securebits SECBIT-NO-SETU
 
 -- ---- the calls on user IDs
 
--- an accepted call 15, 16 or 17
-unfoldable pub userIdsChanged : Credentials → Ids → Answer
-userIdsChanged c new = Done 0 (withSets (withUids c new) (setsAfter (c .uids) new (c .securebits) (c .sets)))
+-- with SETUID a thread may set any user ID
+abbrev pub maySetAnyUserId : Credentials → Bool
+maySetAnyUserId c = has (c .sets .effective) CAP-SETUID
+
+-- calls 15 to 17: the new user IDs, and the sets by rules 1 to 3; or refused
+abbrev pub userIdsChanged : Credentials → NewIds → Answer
+userIdsChanged c (Allowed new) = Done 0 (withSets (withUids c new) (setsAfter (c .uids) new (c .securebits) (c .sets)))
+userIdsChanged c NotAllowed = NotPermitted
 
 -- call 15
 unfoldable pub setuid : Credentials → ℕ → Answer
-setuid c id =
-    cond (setuidAllowed (maySetAnyUserId c) (c .uids) id) (userIdsChanged c (setuidIds (maySetAnyUserId c) (c .uids) id)) NotPermitted
+setuid c id = userIdsChanged c (setuidOn (maySetAnyUserId c) (c .uids) id)
 
 -- call 16
 unfoldable pub setreuid : Credentials → ℕ → ℕ → Answer
-setreuid c r e =
-    let new : Ids = setreuidIds (c .uids) r e in
-    cond (setreuidAllowed (maySetAnyUserId c) (c .uids) new) (userIdsChanged c new) NotPermitted
+setreuid c r e = userIdsChanged c (setreuidOn (maySetAnyUserId c) (c .uids) r e)
 
 -- call 17
 unfoldable pub setresuid : Credentials → ℕ → ℕ → ℕ → Answer
-setresuid c r e s =
-    let new : Ids = setresuidIds (c .uids) r e s in
-    cond (setresuidAllowed (maySetAnyUserId c) (c .uids) new) (userIdsChanged c new) NotPermitted
+setresuid c r e s = userIdsChanged c (setresuidOn (maySetAnyUserId c) (c .uids) r e s)
 
--- call 18: never refused; the value is the old filesystem ID
+-- call 18: the sets by rule 4; never refused, and the value is the old filesystem ID
+abbrev pub filesystemUserIdChanged : Credentials → NewIds → Answer
+filesystemUserIdChanged c (Allowed new) =
+    Done (c .uids .filesystem) (withSets (withUids c new) (setsAfterFilesystem (c .uids) new (c .securebits) (c .sets)))
+filesystemUserIdChanged c NotAllowed = Done (c .uids .filesystem) c
+
 unfoldable pub setfsuid : Credentials → ℕ → Answer
-setfsuid c id =
-    let new : Ids = withFilesystem (c .uids) id in
-    cond (setfsuidChanges (maySetAnyUserId c) (c .uids) id)
-    (Done (c .uids .filesystem) (withSets (withUids c new) (setsAfterFilesystem (c .uids) new (c .securebits) (c .sets))))
-    (Done (c .uids .filesystem) c)
+setfsuid c id = filesystemUserIdChanged c (setfsuidOn (maySetAnyUserId c) (c .uids) id)
+
+-- ---- the calls on group IDs, by the same rules with SETGID in place of SETUID; none of rules 1 to 4 runs, and no set is touched
+
+-- with SETGID a thread may set any group ID
+abbrev pub maySetAnyGroupId : Credentials → Bool
+maySetAnyGroupId c = has (c .sets .effective) CAP-SETGID
+
+-- calls 19 to 21: the new group IDs, or refused
+abbrev pub groupIdsChanged : Credentials → NewIds → Answer
+groupIdsChanged c (Allowed new) = Done 0 (withGids c new)
+groupIdsChanged c NotAllowed = NotPermitted
+
+-- call 19
+unfoldable pub setgid : Credentials → ℕ → Answer
+setgid c id = groupIdsChanged c (setuidOn (maySetAnyGroupId c) (c .gids) id)
+
+-- call 20
+unfoldable pub setregid : Credentials → ℕ → ℕ → Answer
+setregid c r e = groupIdsChanged c (setreuidOn (maySetAnyGroupId c) (c .gids) r e)
+
+-- call 21
+unfoldable pub setresgid : Credentials → ℕ → ℕ → ℕ → Answer
+setresgid c r e s = groupIdsChanged c (setresuidOn (maySetAnyGroupId c) (c .gids) r e s)
+
+-- call 22: never refused, and the value is the old filesystem ID
+abbrev pub filesystemGroupIdChanged : Credentials → NewIds → Answer
+filesystemGroupIdChanged c (Allowed new) = Done (c .gids .filesystem) (withGids c new)
+filesystemGroupIdChanged c NotAllowed = Done (c .gids .filesystem) c
+
+unfoldable pub setfsgid : Credentials → ℕ → Answer
+setfsgid c id = filesystemGroupIdChanged c (setfsuidOn (maySetAnyGroupId c) (c .gids) id)

@@ -1,4 +1,4 @@
--- "Launching", call 1: execve(2) of a file with an owner, flags and an attribute. Assumes nothing.
+-- "Launching", call 1: execve(2) of a file with an owner, flags, a group and an attribute. Assumes nothing.
 use Prim.Native.Nat.{ℕ}
 use mathlib.Core.Bool.{Bool, cond, not, _&&_, _||_}
 use mathlib.Core.List.{List}
@@ -12,7 +12,7 @@ use Rattle.credentials.specs.Securebits.{SECBIT-NOROOT, SECBIT-KEEP-CAPS}
 use Rattle.credentials.specs.declared.Ids.{Ids}
 use Rattle.credentials.specs.declared.Sets.{Sets}
 use Rattle.credentials.specs.declared.Credentials.{Credentials}
-use Rattle.rules.specs.Fields.{isSet, withUids, withSets, withSecurebits}
+use Rattle.rules.specs.Fields.{isSet, withGids, withUids, withSets, withSecurebits}
 use Rattle.rules.specs.declared.Answer.{Answer}
 use Rattle.rules.specs.declared.Answer.the-variants.{Done, NotPermitted, UnreadableAttribute}
 
@@ -48,19 +48,27 @@ fileRead nnp flags attribute = cond (ignoresAttribute nnp flags) (File noneAttac
 unfoldable pub inForce : Bool → ℕ → ℕ → Bool
 inForce nnp flags bit = isSet flags bit && not (ignoresSetId nnp flags)
 
--- b: set-user-ID in force makes the owner the effective ID
-unfoldable pub effectiveId : Bool → ℕ → ℕ → Ids → ℕ
-effectiveId nnp flags owner u = cond (inForce nnp flags SET-USER-ID) owner (u .effective)
+-- b: a set-ID bit in force makes the file's ID the effective one
+unfoldable pub effectiveId : Bool → ℕ → Ids → ℕ
+effectiveId force id u = cond force id (u .effective)
 
 -- b: the saved and the filesystem ID then follow the effective one
-unfoldable pub launchedIds : Bool → ℕ → ℕ → Ids → Ids
-launchedIds nnp flags owner u =
+unfoldable pub launchedIds : Bool → ℕ → Ids → Ids
+launchedIds force id u =
     record {
       real = u .real;
-      effective = effectiveId nnp flags owner u;
-      saved = effectiveId nnp flags owner u;
-      filesystem = effectiveId nnp flags owner u;
+      effective = effectiveId force id u;
+      saved = effectiveId force id u;
+      filesystem = effectiveId force id u;
     }
+
+-- b: the user IDs, by the set-user-ID bit and the file's owner
+abbrev pub launchedUids : Credentials → ℕ → ℕ → Ids
+launchedUids c owner flags = launchedIds (inForce (c .nnp) flags SET-USER-ID) owner (c .uids)
+
+-- b: the group IDs likewise, by the set-group-ID bit and the file's group
+abbrev pub launchedGids : Credentials → ℕ → ℕ → Ids
+launchedGids c flags group = launchedIds (inForce (c .nnp) flags SET-GROUP-ID) group (c .gids)
 
 -- c, the exception: an attribute is attached, and only the effective ID is 0
 abbrev keepsOwn : Ids → FileCapabilities → Bool
@@ -128,17 +136,18 @@ unfoldable pub fallsShort : Sets → FileCapabilities → Bool
 fallsShort s f = f .effective && outside (f .permitted) (gained s f)
 
 -- b to e together: no rule after an ID call runs here, and no-new-privs stays
-unfoldable pub launched : Credentials → ℕ → ℕ → FileCapabilities → Credentials
-launched c owner flags f =
-    let u : Ids = launchedIds (c .nnp) flags owner (c .uids) in
+unfoldable pub launched : Credentials → ℕ → ℕ → ℕ → FileCapabilities → Credentials
+launched c owner flags group f =
+    let u : Ids = launchedUids c owner flags in
+    let g : Ids = launchedGids c flags group in
     let a : ℕ = launchedAmbient (c .nnp) flags f (c .sets .ambient) in
-    withSecurebits (withSets (withUids c u) (launchedSets (c .sets) (counted (c .securebits) u f) a)) (launchedSecurebits (c .securebits))
+    withSecurebits (withSets (withGids (withUids c u) g) (launchedSets (c .sets) (counted (c .securebits) u f) a)) (launchedSecurebits (c .securebits))
 
 -- the launch of a file that was read: 60 where it could not be, then 1 by f
-abbrev pub launchOf : Credentials → ℕ → ℕ → Reading → Answer
-launchOf c owner flags (File f) = cond (fallsShort (c .sets) f) NotPermitted (Done 0 (launched c owner flags f))
-launchOf c owner flags Unreadable = UnreadableAttribute
+abbrev pub launchOf : Credentials → ℕ → ℕ → ℕ → Reading → Answer
+launchOf c owner flags group (File f) = cond (fallsShort (c .sets) f) NotPermitted (Done 0 (launched c owner flags group f))
+launchOf c owner flags group Unreadable = UnreadableAttribute
 
 -- call 1
-unfoldable pub launch : Credentials → ℕ → ℕ → List ℕ → Answer
-launch c owner flags attribute = launchOf c owner flags (fileRead (c .nnp) flags attribute)
+unfoldable pub launch : Credentials → ℕ → ℕ → ℕ → List ℕ → Answer
+launch c owner flags group attribute = launchOf c owner flags group (fileRead (c .nnp) flags attribute)

@@ -12,3 +12,4 @@ pub mod Call
 pub mod Run
 pub mod Cases
 pub mod Demand3
+pub mod IdCalls

@@ -1,7 +1,8 @@
-// The rules of the eighteen calls: the types of a call and of its answer here, the definitions in specs/.
+// The rules of the twenty-two calls: the types of a call and of its answer here, the definitions in specs/.
 //
 // There are no functions: the crate `calls` has the code that meets these rules. The crate assumes nothing.
 use credentials::Credentials;
+use credentials::Ids;
 
 // What a call answers: done, with its value and the credentials after it, or refused: by the rules (1), because number, operands and attribute
 // make no call (22), because the attribute cannot be read (60), or because the credentials given are not valid (72). A refusal leaves them
@@ -14,11 +15,12 @@ pub enum Answer {
     InvalidCredentials,
 }
 
-// A call by its name, with the operands that it uses, in the order of the numbers 1 to 18.
+// A call by its name, with the operands that it uses, in the order of the numbers 1 to 22.
 pub enum Call {
     Execve {
         owner: u64,
         flags: u64,
+        group: u64,
     },
     Capset {
         permitted: u64,
@@ -66,6 +68,27 @@ pub enum Call {
     Setfsuid {
         id: u64,
     },
+    Setgid {
+        id: u64,
+    },
+    Setregid {
+        real: u64,
+        effective: u64,
+    },
+    Setresgid {
+        real: u64,
+        effective: u64,
+        saved: u64,
+    },
+    Setfsgid {
+        id: u64,
+    },
+}
+
+// What an ID call makes of four IDs, user or group: the new ones, or that it may not make them so.
+pub enum NewIds {
+    Allowed(Ids),
+    NotAllowed,
 }
 
 // A number, operands and an attribute as a call, or that they make none.

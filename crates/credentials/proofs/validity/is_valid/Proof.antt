@@ -16,14 +16,18 @@ has-no-bit-above-40-requires c κs = search needs
 ids-are-in-range-requires : tie.Need-ids-are-in-range-requires
 ids-are-in-range-requires c κs = search needs
 
+ids-are-in-range-requires-2 : tie.Need-ids-are-in-range-requires-2
+ids-are-in-range-requires-2 c κs = search needs
+
 returns : tie.Need-returns
 unfolding valid
 returns c =
     simp (
-      ← (c .before .ids-are-in-range .ensures),
-      ← (c .before .before .has-no-bit-above-40 .ensures),
-      ← (c .before .before .before .ambient-is-held .ensures),
-      ← (c .before .before .before .before .is-within .ensures),
+      ← (c .before .ids-are-in-range2 .ensures),
+      ← (c .before .before .ids-are-in-range .ensures),
+      ← (c .before .before .before .has-no-bit-above-40 .ensures),
+      ← (c .before .before .before .before .ambient-is-held .ensures),
+      ← (c .before .before .before .before .before .is-within .ensures),
     )
 
 pub is-valid-spec : {M : Type 1} → statement M
@@ -34,4 +38,5 @@ is-valid-spec =
     ambient-is-held-requires
     has-no-bit-above-40-requires
     ids-are-in-range-requires
+    ids-are-in-range-requires-2
     returns)
