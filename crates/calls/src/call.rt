@@ -7,6 +7,10 @@ use crate::bounding::bounding_drop;
 use crate::bounding::bounding_read;
 use crate::capset::capset;
 use crate::decoding::decode;
+use crate::group_ids::setfsgid;
+use crate::group_ids::setgid;
+use crate::group_ids::setregid;
+use crate::group_ids::setresgid;
 use crate::launching::launch;
 use crate::securebits::get_securebits;
 use crate::securebits::set_securebits;
@@ -44,7 +48,11 @@ fn performed(start: Credentials, attribute: &[u8], call: Call) -> Answer
     ensures { λ r. ⌜ r ≡ performed start (now (attribute .entry)) call ⌝ }
 {
     match call {
-        Call::Execve { owner, flags } => launch(start, owner, flags, attribute),
+        Call::Execve {
+            owner,
+            flags,
+            group,
+        } => launch(start, owner, flags, group, attribute),
         Call::Capset {
             permitted,
             inheritable,
@@ -70,5 +78,13 @@ fn performed(start: Credentials, attribute: &[u8], call: Call) -> Answer
             saved,
         } => setresuid(start, real, effective, saved),
         Call::Setfsuid { id } => setfsuid(start, id),
+        Call::Setgid { id } => setgid(start, id),
+        Call::Setregid { real, effective } => setregid(start, real, effective),
+        Call::Setresgid {
+            real,
+            effective,
+            saved,
+        } => setresgid(start, real, effective, saved),
+        Call::Setfsgid { id } => setfsgid(start, id),
     }
 }

@@ -22,10 +22,19 @@ pub(crate) fn decode(number: u64, a: u64, b: u64, c: u64, size: usize) -> Decode
     let uses_one = (b == 0) & ((c == 0) & (size == 0));
     let uses_none = (a == 0) & uses_one;
     let capability = uses_one & (a <= LARGEST_CAPABILITY);
+    let two_ids = (c == 0) & (size == 0) & (a <= NO_ID) & (b <= NO_ID);
+    let three_ids = (size == 0) & (a <= NO_ID) & (b <= NO_ID) & (c <= NO_ID);
     match number {
         1 => {
-            let right = (a <= LARGEST_ID) & (b <= LARGEST_FLAGS) & (c == 0);
-            known(right, Call::Execve { owner: a, flags: b })
+            let right = (a <= LARGEST_ID) & (b <= LARGEST_FLAGS) & (c <= LARGEST_ID);
+            known(
+                right,
+                Call::Execve {
+                    owner: a,
+                    flags: b,
+                    group: c,
+                },
+            )
         }
         2 => {
             let right = (size == 0)
@@ -57,28 +66,39 @@ pub(crate) fn decode(number: u64, a: u64, b: u64, c: u64, size: usize) -> Decode
         13 => known(uses_one & (a == 1), Call::SetNoNewPrivs),
         14 => known(uses_none, Call::GetNoNewPrivs),
         15 => known(uses_one & (a <= LARGEST_ID), Call::Setuid { id: a }),
-        16 => {
-            let right = (c == 0) & (size == 0) & (a <= NO_ID) & (b <= NO_ID);
-            known(
-                right,
-                Call::Setreuid {
-                    real: a,
-                    effective: b,
-                },
-            )
-        }
-        17 => {
-            let right = (size == 0) & (a <= NO_ID) & (b <= NO_ID) & (c <= NO_ID);
-            known(
-                right,
-                Call::Setresuid {
-                    real: a,
-                    effective: b,
-                    saved: c,
-                },
-            )
-        }
+        16 => known(
+            two_ids,
+            Call::Setreuid {
+                real: a,
+                effective: b,
+            },
+        ),
+        17 => known(
+            three_ids,
+            Call::Setresuid {
+                real: a,
+                effective: b,
+                saved: c,
+            },
+        ),
         18 => known(uses_one & (a <= NO_ID), Call::Setfsuid { id: a }),
+        19 => known(uses_one & (a <= LARGEST_ID), Call::Setgid { id: a }),
+        20 => known(
+            two_ids,
+            Call::Setregid {
+                real: a,
+                effective: b,
+            },
+        ),
+        21 => known(
+            three_ids,
+            Call::Setresgid {
+                real: a,
+                effective: b,
+                saved: c,
+            },
+        ),
+        22 => known(uses_one & (a <= NO_ID), Call::Setfsgid { id: a }),
         _ => Decoded::Unknown,
     }
 }

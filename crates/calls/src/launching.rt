@@ -1,4 +1,4 @@
-// Launching, call 1: execve(2) of a file with an owner, flags and an attribute.
+// Launching, call 1: execve(2) of a file with an owner, flags, a group and an attribute.
 use attribute::FileCapabilities;
 use attribute::Reading;
 use capabilities::sets;
@@ -26,10 +26,16 @@ const TRACED: u64 = 8;
 // The kernel was booted with no_file_caps.
 const NO_FILE_CAPS: u64 = 16;
 
-// Call 1: what a launch of a file with this owner, these flags and this attribute leaves. It is refused where the attribute counts and
+// Call 1: what a launch of a file with this owner, these flags, this group and this attribute leaves. It is refused where the attribute counts and
 // cannot be read, and then by f where the file's own bit is on and its own permitted set is not given whole.
-pub(crate) fn launch(start: Credentials, owner: u64, flags: u64, attribute: &[u8]) -> Answer
-    ensures { λ r. ⌜ r ≡ launch start owner flags (now (attribute .entry)) ⌝ }
+pub(crate) fn launch(
+    start: Credentials,
+    owner: u64,
+    flags: u64,
+    group: u64,
+    attribute: &[u8],
+) -> Answer
+    ensures { λ r. ⌜ r ≡ launch start owner flags group (now (attribute .entry)) ⌝ }
 {
     let Reading::File(file) = file_read(start.nnp, flags, attribute) else {
         return Answer::UnreadableAttribute;
@@ -39,7 +45,7 @@ pub(crate) fn launch(start: Credentials, owner: u64, flags: u64, attribute: &[u8
     }
     Answer::Done {
         value: 0,
-        after: launched(start, owner, flags, file),
+        after: launched(start, owner, flags, group, file),
     }
 }
 
@@ -73,39 +79,47 @@ fn in_force(nnp: bool, flags: u64, bit: u64) -> bool
 }
 
 // Launching, b to e: what a launch that is not refused leaves. No-new-privs stays.
-fn launched(start: Credentials, owner: u64, flags: u64, file: FileCapabilities) -> Credentials
-    ensures { λ r. ⌜ r ≡ launched start owner flags file ⌝ }
+fn launched(
+    start: Credentials,
+    owner: u64,
+    flags: u64,
+    group: u64,
+    file: FileCapabilities,
+) -> Credentials
+    ensures { λ r. ⌜ r ≡ launched start owner flags group file ⌝ }
 {
-    let uids = launched_ids(start.nnp, flags, owner, start.uids);
+    let uids = launched_ids(in_force(start.nnp, flags, SET_USER_ID), owner, start.uids);
+    let gids = launched_ids(in_force(start.nnp, flags, SET_GROUP_ID), group, start.gids);
     let counts = counted(start.securebits, uids, file);
     let ambient = launched_ambient(start.nnp, flags, file, start.sets.ambient);
     let mut next = start;
     next.uids = uids;
+    next.gids = gids;
     next.sets = launched_sets(start.sets, counts, ambient);
     next.securebits = sets::difference(start.securebits, SECBIT_KEEP_CAPS);
     next
 }
 
-// Launching, b: the saved and the filesystem ID follow the effective one.
-fn launched_ids(nnp: bool, flags: u64, owner: u64, old: Ids) -> Ids
-    ensures { λ r. ⌜ r ≡ launchedIds nnp flags owner old ⌝ }
+// Launching, b, of user IDs and of group IDs alike: the saved and the filesystem ID follow the effective one.
+fn launched_ids(force: bool, id: u64, old: Ids) -> Ids
+    ensures { λ r. ⌜ r ≡ launchedIds force id old ⌝ }
 {
-    let id = effective_id(nnp, flags, owner, old);
+    let effective = effective_id(force, id, old);
     let mut next = old;
-    next.effective = id;
-    next.saved = id;
-    next.filesystem = id;
+    next.effective = effective;
+    next.saved = effective;
+    next.filesystem = effective;
     next
 }
 
-// Launching, b: the effective ID, which a set-user-ID file in force makes its owner.
-fn effective_id(nnp: bool, flags: u64, owner: u64, uids: Ids) -> u64
-    ensures { λ r. ⌜ r ≡ effectiveId nnp flags owner uids ⌝ }
+// Launching, b: the effective ID, which a set-ID bit in force makes the file's.
+fn effective_id(force: bool, id: u64, old: Ids) -> u64
+    ensures { λ r. ⌜ r ≡ effectiveId force id old ⌝ }
 {
-    if in_force(nnp, flags, SET_USER_ID) {
-        return owner;
+    if force {
+        return id;
     }
-    uids.effective
+    old.effective
 }
 
 // Launching, c: the file's sets and bit as they count for these user IDs.

@@ -8,8 +8,9 @@ use credentials::Sets;
 use credentials::securebits::SECBIT_KEEP_CAPS;
 use credentials::securebits::SECBIT_NO_SETUID_FIXUP;
 use rules::Answer;
+use rules::NewIds;
 ghost use mathlib.Core.Path.{_≡_};
-ghost use Rattle.rules.specs.Ids.{effectiveLeft, effectiveTaken, filesystemLeft, filesystemTaken, rootLeft, setfsuid, setresuid, setreuid, setsAfter, setsAfterFilesystem, setuid, userIdsChanged};
+ghost use Rattle.rules.specs.Ids.{effectiveLeft, effectiveTaken, filesystemLeft, filesystemTaken, filesystemUserIdChanged, rootLeft, setfsuid, setresuid, setreuid, setsAfter, setsAfterFilesystem, setuid, userIdsChanged};
 
 // Rule 4's set: CHOWN, DAC_OVERRIDE, DAC_READ_SEARCH, FOWNER, FSETID, LINUX_IMMUTABLE, MKNOD and MAC_OVERRIDE.
 const FILESYSTEM_SET: u64 = 0x1_0800_021f;
@@ -20,10 +21,7 @@ pub(crate) fn setuid(start: Credentials, id: u64) -> Answer
     ensures { λ r. ⌜ r ≡ setuid start id ⌝ }
 {
     let any = sets::has(start.sets.effective, CAP_SETUID);
-    if ids::setuid_is_allowed(any, start.uids, id) {
-        return user_ids_changed(start, ids::setuid_ids(any, start.uids, id));
-    }
-    Answer::NotPermitted
+    user_ids_changed(start, ids::setuid(any, start.uids, id))
 }
 
 // Call 16: the real and the effective ID become those given, and the filesystem ID follows the effective one; refused where the thread lacks
@@ -32,11 +30,7 @@ pub(crate) fn setreuid(start: Credentials, real: u64, effective: u64) -> Answer
     ensures { λ r. ⌜ r ≡ setreuid start real effective ⌝ }
 {
     let any = sets::has(start.sets.effective, CAP_SETUID);
-    let new = ids::setreuid_ids(start.uids, real, effective);
-    if ids::setreuid_is_allowed(any, start.uids, new) {
-        return user_ids_changed(start, new);
-    }
-    Answer::NotPermitted
+    user_ids_changed(start, ids::setreuid(any, start.uids, real, effective))
 }
 
 // Call 17: the real, the effective and the saved ID become those given, and the filesystem ID follows the effective one; refused where the
@@ -45,11 +39,10 @@ pub(crate) fn setresuid(start: Credentials, real: u64, effective: u64, saved: u6
     ensures { λ r. ⌜ r ≡ setresuid start real effective saved ⌝ }
 {
     let any = sets::has(start.sets.effective, CAP_SETUID);
-    let new = ids::setresuid_ids(start.uids, real, effective, saved);
-    if ids::setresuid_is_allowed(any, start.uids, new) {
-        return user_ids_changed(start, new);
-    }
-    Answer::NotPermitted
+    user_ids_changed(
+        start,
+        ids::setresuid(any, start.uids, real, effective, saved),
+    )
 }
 
 // Call 18: the filesystem ID becomes id, if it may. Never refused: the value is the old filesystem ID whether it changes or not. The
@@ -57,32 +50,42 @@ pub(crate) fn setresuid(start: Credentials, real: u64, effective: u64, saved: u6
 pub(crate) fn setfsuid(start: Credentials, id: u64) -> Answer
     ensures { λ r. ⌜ r ≡ setfsuid start id ⌝ }
 {
-    let old = start.uids;
     let any = sets::has(start.sets.effective, CAP_SETUID);
-    if ids::setfsuid_changes(any, old, id) {
-        let mut next = start;
-        next.uids.filesystem = id;
-        next.sets = sets_after_filesystem(old, next.uids, start.securebits, start.sets);
-        return Answer::Done {
-            value: old.filesystem,
-            after: next,
-        };
-    }
+    filesystem_user_id_changed(start, ids::setfsuid(any, start.uids, id))
+}
+
+// Calls 15 to 17: the new user IDs and the sets after them, or refused.
+fn user_ids_changed(start: Credentials, new: NewIds) -> Answer
+    ensures { λ r. ⌜ r ≡ userIdsChanged start new ⌝ }
+{
+    let NewIds::Allowed(uids) = new else {
+        return Answer::NotPermitted;
+    };
+    let mut next = start;
+    next.uids = uids;
+    next.sets = sets_after(start.uids, uids, start.securebits, start.sets);
     Answer::Done {
-        value: old.filesystem,
-        after: start,
+        value: 0,
+        after: next,
     }
 }
 
-// An accepted call 15, 16 or 17.
-fn user_ids_changed(start: Credentials, new: Ids) -> Answer
-    ensures { λ r. ⌜ r ≡ userIdsChanged start new ⌝ }
+// Call 18: the new user IDs and the sets after them, or nothing changes.
+fn filesystem_user_id_changed(start: Credentials, new: NewIds) -> Answer
+    ensures { λ r. ⌜ r ≡ filesystemUserIdChanged start new ⌝ }
 {
+    let old = start.uids;
+    let NewIds::Allowed(uids) = new else {
+        return Answer::Done {
+            value: old.filesystem,
+            after: start,
+        };
+    };
     let mut next = start;
-    next.uids = new;
-    next.sets = sets_after(start.uids, new, start.securebits, start.sets);
+    next.uids = uids;
+    next.sets = sets_after_filesystem(old, uids, start.securebits, start.sets);
     Answer::Done {
-        value: 0,
+        value: old.filesystem,
         after: next,
     }
 }

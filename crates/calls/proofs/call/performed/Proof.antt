@@ -111,6 +111,30 @@ enum-known-call-13 c = search needs
 setfsuid-requires : tie.Need-setfsuid-requires
 setfsuid-requires c κs = tt
 
+enum-known-call-14 : tie.Need-enum-known-call-14
+enum-known-call-14 c = search needs
+
+setgid-requires : tie.Need-setgid-requires
+setgid-requires c κs = tt
+
+enum-known-call-15 : tie.Need-enum-known-call-15
+enum-known-call-15 c = search needs
+
+setregid-requires : tie.Need-setregid-requires
+setregid-requires c κs = tt
+
+enum-known-call-16 : tie.Need-enum-known-call-16
+enum-known-call-16 c = search needs
+
+setresgid-requires : tie.Need-setresgid-requires
+setresgid-requires c κs = tt
+
+enum-known-call-17 : tie.Need-enum-known-call-17
+enum-known-call-17 c = search needs
+
+setfsgid-requires : tie.Need-setfsgid-requires
+setfsgid-requires c κs = tt
+
 returns : tie.Need-returns
 returns c =
     simp (
@@ -237,6 +261,34 @@ returns-18 c =
       c .before .before .call13 .given .1,
     )
 
+returns-19 : tie.Need-returns-19
+returns-19 c =
+    simp (
+      ← (c .setgid .ensures),
+      c .before .before .call14 .given .1,
+    )
+
+returns-20 : tie.Need-returns-20
+returns-20 c =
+    simp (
+      ← (c .setregid .ensures),
+      c .before .before .call15 .given .1,
+    )
+
+returns-21 : tie.Need-returns-21
+returns-21 c =
+    simp (
+      ← (c .setresgid .ensures),
+      c .before .before .call16 .given .1,
+    )
+
+returns-22 : tie.Need-returns-22
+returns-22 c =
+    simp (
+      ← (c .setfsgid .ensures),
+      c .before .before .call17 .given .1,
+    )
+
 pub performed-spec : {M : Type 1} → statement M
 performed-spec =
     tie.close
@@ -277,6 +329,14 @@ performed-spec =
     setresuid-requires
     enum-known-call-13
     setfsuid-requires
+    enum-known-call-14
+    setgid-requires
+    enum-known-call-15
+    setregid-requires
+    enum-known-call-16
+    setresgid-requires
+    enum-known-call-17
+    setfsgid-requires
     returns
     returns-2
     returns-3
@@ -294,4 +354,8 @@ performed-spec =
     returns-15
     returns-16
     returns-17
-    returns-18)
+    returns-18
+    returns-19
+    returns-20
+    returns-21
+    returns-22)

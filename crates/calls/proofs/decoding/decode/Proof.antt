@@ -68,6 +68,18 @@ known-requires-17 c κs = tt
 known-requires-18 : tie.Need-known-requires-18
 known-requires-18 c κs = tt
 
+known-requires-19 : tie.Need-known-requires-19
+known-requires-19 c κs = tt
+
+known-requires-20 : tie.Need-known-requires-20
+known-requires-20 c κs = tt
+
+known-requires-21 : tie.Need-known-requires-21
+known-requires-21 c κs = tt
+
+known-requires-22 : tie.Need-known-requires-22
+known-requires-22 c κs = tt
+
 returns : tie.Need-returns
 unfolding decode usesOne
 returns c =
@@ -216,8 +228,44 @@ returns-18 c =
     )
 
 returns-19 : tie.Need-returns-19
+unfolding decode usesOne
 returns-19 c =
+    simp (
+      ← (c .known19 .ensures),
+      c .before .match .keys19,
+    )
+
+returns-20 : tie.Need-returns-20
+unfolding decode usesOne
+returns-20 c =
+    simp (
+      ← (c .known20 .ensures),
+      c .before .match .keys20,
+    )
+
+returns-21 : tie.Need-returns-21
+unfolding decode usesOne
+returns-21 c =
+    simp (
+      ← (c .known21 .ensures),
+      c .before .match .keys21,
+    )
+
+returns-22 : tie.Need-returns-22
+unfolding decode usesOne
+returns-22 c =
+    simp (
+      ← (c .known22 .ensures),
+      c .before .match .keys22,
+    )
+
+returns-23 : tie.Need-returns-23
+returns-23 c =
     unknown _ _ _ _ _
+    (ne-eqb _ _ (c .match .rest .0 .0 .0 .0 .0 .0 .0 .0 .0 .0 .0 .0 .0 .0 .0 .0 .0 .0 .0 .0 .0 .1))
+    (ne-eqb _ _ (c .match .rest .0 .0 .0 .0 .0 .0 .0 .0 .0 .0 .0 .0 .0 .0 .0 .0 .0 .0 .0 .0 .1))
+    (ne-eqb _ _ (c .match .rest .0 .0 .0 .0 .0 .0 .0 .0 .0 .0 .0 .0 .0 .0 .0 .0 .0 .0 .0 .1))
+    (ne-eqb _ _ (c .match .rest .0 .0 .0 .0 .0 .0 .0 .0 .0 .0 .0 .0 .0 .0 .0 .0 .0 .0 .1))
     (ne-eqb _ _ (c .match .rest .0 .0 .0 .0 .0 .0 .0 .0 .0 .0 .0 .0 .0 .0 .0 .0 .0 .1))
     (ne-eqb _ _ (c .match .rest .0 .0 .0 .0 .0 .0 .0 .0 .0 .0 .0 .0 .0 .0 .0 .0 .1))
     (ne-eqb _ _ (c .match .rest .0 .0 .0 .0 .0 .0 .0 .0 .0 .0 .0 .0 .0 .0 .0 .1))
@@ -262,6 +310,10 @@ decode-spec =
     known-requires-16
     known-requires-17
     known-requires-18
+    known-requires-19
+    known-requires-20
+    known-requires-21
+    known-requires-22
     returns
     returns-2
     returns-3
@@ -280,4 +332,8 @@ decode-spec =
     returns-16
     returns-17
     returns-18
-    returns-19)
+    returns-19
+    returns-20
+    returns-21
+    returns-22
+    returns-23)

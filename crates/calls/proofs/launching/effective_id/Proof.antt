@@ -3,24 +3,13 @@ use Rattle.rules.specs.Launching.{effectiveId}
 use Rattle.calls.proofs.launching.effective_id.Statement.{statement}
 use Rattle.calls.proofs.launching.effective_id.Tie as tie
 
-in-force-requires : tie.Need-in-force-requires
-in-force-requires c κs = tt
-
 returns : tie.Need-returns
 unfolding effectiveId
-returns c =
-    simp (
-      c .if1 .taken,
-      ← (c .before .in-force .ensures),
-    )
+returns c = simp (c .if1 .taken)
 
 returns-2 : tie.Need-returns-2
 unfolding effectiveId
-returns-2 c =
-    simp (
-      c .if1 .left,
-      ← (c .before .in-force .ensures),
-    )
+returns-2 c = simp (c .if1 .left)
 
 pub effective-id-spec : {M : Type 1} → statement M
-effective-id-spec = tie.close (tie.spec in-force-requires returns returns-2)
+effective-id-spec = tie.close (tie.spec returns returns-2)

@@ -3,8 +3,17 @@ use Rattle.rules.specs.Launching.{launched}
 use Rattle.calls.proofs.launching.launched.Statement.{statement}
 use Rattle.calls.proofs.launching.launched.Tie as tie
 
+in-force-requires : tie.Need-in-force-requires
+in-force-requires c κs = tt
+
 launched-ids-requires : tie.Need-launched-ids-requires
 launched-ids-requires c κs = tt
+
+in-force-requires-2 : tie.Need-in-force-requires-2
+in-force-requires-2 c κs = tt
+
+launched-ids-requires-2 : tie.Need-launched-ids-requires-2
+launched-ids-requires-2 c κs = tt
 
 counted-requires : tie.Need-counted-requires
 counted-requires c κs = tt
@@ -26,14 +35,20 @@ returns c =
       ← (c .before .launched-sets .ensures),
       ← (c .before .before .launched-ambient .ensures),
       ← (c .before .before .before .counted .ensures),
-      ← (c .before .before .before .before .launched-ids .ensures),
+      ← (c .before .before .before .before .launched-ids2 .ensures),
+      ← (c .before .before .before .before .before .in-force2 .ensures),
+      ← (c .before .before .before .before .before .before .launched-ids .ensures),
+      ← (c .before .before .before .before .before .before .before .in-force .ensures),
     )
 
 pub launched-spec : {M : Type 1} → statement M
 launched-spec =
     tie.close
     (tie.spec
+    in-force-requires
     launched-ids-requires
+    in-force-requires-2
+    launched-ids-requires-2
     counted-requires
     launched-ambient-requires
     launched-sets-requires

@@ -6,11 +6,8 @@ use Rattle.calls.proofs.user_ids.setreuid.Tie as tie
 has-requires : tie.Need-has-requires
 has-requires c κs = tt
 
-setreuid-ids-requires : tie.Need-setreuid-ids-requires
-setreuid-ids-requires c κs = tt
-
-setreuid-is-allowed-requires : tie.Need-setreuid-is-allowed-requires
-setreuid-is-allowed-requires c κs = tt
+setreuid-requires : tie.Need-setreuid-requires
+setreuid-requires c κs = tt
 
 user-ids-changed-requires : tie.Need-user-ids-changed-requires
 user-ids-changed-requires c κs = tt
@@ -20,29 +17,10 @@ unfolding setreuid
 returns c =
     simp (
       ← (c .user-ids-changed .ensures),
-      c .before .if1 .taken,
-      ← (c .before .before .setreuid-is-allowed .ensures),
-      ← (c .before .before .before .setreuid-ids .ensures),
-      ← (c .before .before .before .before .has .ensures),
-    )
-
-returns-2 : tie.Need-returns-2
-unfolding setreuid
-returns-2 c =
-    simp (
-      c .if1 .left,
-      ← (c .before .setreuid-is-allowed .ensures),
-      ← (c .before .before .setreuid-ids .ensures),
-      ← (c .before .before .before .has .ensures),
+      ← (c .before .setreuid .ensures),
+      ← (c .before .before .has .ensures),
     )
 
 pub setreuid-spec : {M : Type 1} → statement M
 setreuid-spec =
-    tie.close
-    (tie.spec
-    has-requires
-    setreuid-ids-requires
-    setreuid-is-allowed-requires
-    user-ids-changed-requires
-    returns
-    returns-2)
+    tie.close (tie.spec has-requires setreuid-requires user-ids-changed-requires returns)

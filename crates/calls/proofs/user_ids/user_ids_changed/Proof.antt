@@ -1,14 +1,27 @@
 -- `calls::user_ids::user_ids_changed` meets its contract. Assumes nothing.
-use Rattle.rules.specs.Ids.{userIdsChanged}
+use borrow.Author.Needs.{needs}
 use Rattle.calls.proofs.user_ids.user_ids_changed.Statement.{statement}
 use Rattle.calls.proofs.user_ids.user_ids_changed.Tie as tie
+
+enum-known-new : tie.Need-enum-known-new
+enum-known-new c = search needs
+
+enum-told : tie.Need-enum-told
+enum-told c = search needs
+
+returns : tie.Need-returns
+returns c = search needs
 
 sets-after-requires : tie.Need-sets-after-requires
 sets-after-requires c κs = tt
 
-returns : tie.Need-returns
-unfolding userIdsChanged
-returns c = simp (← (c .sets-after .ensures))
+returns-2 : tie.Need-returns-2
+returns-2 c =
+    simp (
+      ← (c .sets-after .ensures),
+      c .before .before .new .given .1,
+    )
 
 pub user-ids-changed-spec : {M : Type 1} → statement M
-user-ids-changed-spec = tie.close (tie.spec sets-after-requires returns)
+user-ids-changed-spec =
+    tie.close (tie.spec enum-known-new enum-told returns sets-after-requires returns-2)
