@@ -6,7 +6,7 @@ use native.Mathlib.Nat.{not-suc-le-zero}
 use native.Mathlib.Omega.{arith}
 use lib.ListN.{length, length-append}
 use Rattle.attribute.specs.Words.{Bytes}
-use Rattle.format.specs.Line.{Form, Kind, valueText, keyedText, keyText, Read, read, faultAt, fault, below, next, mapped, readValue, readKeyed, readLine, readLines, decimal, hex, hexDigit, decimalDigit, newline, readHex, readDigits, readDecimal, afterKey}
+use Rattle.format.specs.Line.{Form, Kind, valueText, keyedText, Read, read, faultAt, fault, below, next, mapped, readValue, readKeyed, readLine, readLines, decimal, hex, hexDigit, decimalDigit, newline, readHex, readDigits, readDecimal, afterKey}
 use Rattle.format.specs.Step.{pairsText, readPairs, readAttribute}
 use Rattle.format.proofs.Fitting.{Fits}
 use Rattle.format.proofs.Lengths.{mostKeyed, mostLines, length-line, length-attribute}
@@ -190,7 +190,7 @@ unfolding readLines mostLines
 lines-alike [] u more left h = (refl, refl, omega (arith, h))
 lines-alike (k ∷ ks) u more left h =
     next-alike more left 1 (mostLines ks + left) (readLine k u) (readLine k (u ++ more)) (λ v t. mapped (λ vs. v ∷ vs) (readLines ks t))
-    (line-alike (keyed (keyText k) (k .form)) u more (mostLines ks + left) (omega (arith, h)))
+    (line-alike (keyed (k .key) (k .form)) u more (mostLines ks + left) (omega (arith, h)))
     (λ v t g. mapped-alike more left (λ vs. v ∷ vs) (readLines ks t) (readLines ks (t ++ more)) (lines-alike ks t more left g))
 
 -- an attribute

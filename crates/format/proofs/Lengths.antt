@@ -7,7 +7,7 @@ use native.Mathlib.Nat.{pow-suc, not-suc-le-zero}
 use native.Mathlib.Numerals.{add-one}
 use native.Mathlib.Omega.{arith}
 use lib.ListN.{length, length-append}
-use Rattle.format.specs.Line.{Form, decimal, hex, Kind, digit, hexText, decimalText, valueText, keyedText, keyText, lineText, linesText}
+use Rattle.format.specs.Line.{Form, decimal, hex, Kind, digit, hexText, decimalText, valueText, keyedText, lineText, linesText}
 use Rattle.format.specs.Step.{pairsText}
 use Rattle.format.specs.Report.{resultKinds}
 use Rattle.format.proofs.Decimals.{below-or-not, decimal-one, decimal-more}
@@ -71,7 +71,7 @@ mostKeyed key form = length key + mostDigits form + 1
 -- the most bytes of lines of these kinds
 unfoldable pub mostLines : List Kind → ℕ
 mostLines [] = 0
-mostLines (k ∷ ks) = mostKeyed (keyText k) (k .form) + mostLines ks
+mostLines (k ∷ ks) = mostKeyed (k .key) (k .form) + mostLines ks
 
 -- a value
 length-value : (form : Form) (v : ℕ) → Fits form v → length (valueText form v) ≤ mostDigits form
@@ -93,7 +93,7 @@ unfolding linesText FitAll mostLines
 length-lines [] vs h = omega arith
 length-lines (k ∷ ks) [] h = absurd h
 length-lines (k ∷ ks) (v ∷ vs) h =
-    omega (arith, length-append (lineText k v) (linesText ks vs), length-line (keyText k) (k .form) v (h .0), length-lines ks vs (h .1))
+    omega (arith, length-append (lineText k v) (linesText ks vs), length-line (k .key) (k .form) v (h .0), length-lines ks vs (h .1))
 
 -- a result's two lines
 pub length-result-lines : (code value : ℕ) → length (linesText resultKinds (code ∷ value ∷ [])) ≡ 29 + length (decimalText code)

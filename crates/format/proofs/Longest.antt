@@ -17,7 +17,7 @@ use Rattle.rules.specs.Run.{Step, Result, result, run, left}
 use Rattle.rules.proofs.Demand3.{demand-3}
 use Rattle.format.specs.declared.SheetReading.the-variants.{Sheet, Malformed}
 use Rattle.format.specs.Line.{linesText, Read, read, faultAt, readLines}
-use Rattle.format.specs.Sheet.{idKinds, setKinds, flagKinds, sheetKinds, sheetValues, sheetText, credentialsOf, readFront, wholeSheet, readSheet}
+use Rattle.format.specs.Sheet.{idKinds, uidKinds, gidKinds, setKinds, flagKinds, sheetKinds, sheetValues, sheetText, credentialsOf, readFront, wholeSheet, readSheet}
 use Rattle.format.specs.Step.{stepKinds, attributeKey, attributeText, stepText, readAttribute, stepOf, readStep}
 use Rattle.format.specs.Plan.{Plan, stepsText, planText, MOST-STEPS, readSteps, readPlan}
 use Rattle.format.specs.Report.{resultText, resultsText, reportText, report, malformed, invalid, judged, verdict}
@@ -33,9 +33,9 @@ use Rattle.format.proofs.Reached.{start, sheet, sheet-read, sheet-lengt
 
 -- ---- sheets, steps and plans
 
--- 179 bytes without the digits of the IDs, and four times 10 digits
-most-sheet : mostLines sheetKinds ≤ 219
-unfolding mostLines idKinds setKinds flagKinds sheetKinds
+-- 204 bytes without the digits of the IDs, and eight times 10 digits
+most-sheet : mostLines sheetKinds ≤ 284
+unfolding mostLines idKinds uidKinds gidKinds setKinds flagKinds sheetKinds
 most-sheet = omega (arith, at-most 9 4294967295 (omega arith), length-one 1 (omega arith))
 
 -- a call's line of 8 bytes and three operands' of 19
@@ -43,7 +43,7 @@ most-step : mostLines stepKinds ≤ 65
 unfolding mostLines stepKinds
 most-step = omega (arith, at-most 1 99 (omega arith))
 
-length-sheet : (c : Credentials) → WritableSheet c → length (sheetText c) ≤ 219
+length-sheet : (c : Credentials) → WritableSheet c → length (sheetText c) ≤ 284
 unfolding sheetText
 length-sheet c w = omega (arith, length-lines sheetKinds (sheetValues c) (Sheets.values-fit c w), most-sheet)
 
@@ -160,7 +160,7 @@ steps-alike (suc n) (b ∷ t) more h =
     (λ s r g. mapped-alike more 0 (λ ss. s ∷ ss) (readSteps n r) (readSteps n (r ++ more)) (steps-alike n r more g))
 
 -- one byte more than a plan has
-plan-alike : (u more : List ℕ) → 30684 ≤ length u → Alike more 0 (readPlan u) (readPlan (u ++ more))
+plan-alike : (u more : List ℕ) → 30749 ≤ length u → Alike more 0 (readPlan u) (readPlan (u ++ more))
 unfolding readPlan readFront
 plan-alike u more h =
     next-alike more 0 _ 30465 (readFront u) (readFront (u ++ more)) _
@@ -186,14 +186,14 @@ cut-at f n h text =
     (below-or-not (length text) n)
 
 -- a text that is cut where that byte ends
-cut : (text : List ℕ) → verdict (take 30684 text) ≡ verdict text
+cut : (text : List ℕ) → verdict (take 30749 text) ≡ verdict text
 unfolding verdict
-cut = cut-at verdict 30684 (λ u more h. judged-alike more (readPlan u) (readPlan (u ++ more)) (plan-alike u more h))
+cut = cut-at verdict 30749 (λ u more h. judged-alike more (readPlan u) (readPlan (u ++ more)) (plan-alike u more h))
 
 -- ---- a sheet that is cut
 
 -- one byte more than a sheet has
-front-alike : (u more : List ℕ) → 220 ≤ length u → Alike more 1 (readFront u) (readFront (u ++ more))
+front-alike : (u more : List ℕ) → 285 ≤ length u → Alike more 1 (readFront u) (readFront (u ++ more))
 unfolding readFront
 front-alike u more h =
     mapped-alike more 1 credentialsOf (readLines sheetKinds u) (readLines sheetKinds (u ++ more))
@@ -207,9 +207,9 @@ whole-alike more (read c t) (faultAt line) h = absurd h
 whole-alike more (faultAt line) (read d u) h = absurd h
 whole-alike more (faultAt line) (faultAt other) h = ap Malformed h
 
-sheet-cut : (text : List ℕ) → readSheet (take 220 text) ≡ readSheet text
+sheet-cut : (text : List ℕ) → readSheet (take 285 text) ≡ readSheet text
 unfolding readSheet
-sheet-cut = cut-at readSheet 220 (λ u more h. whole-alike more (readFront u) (readFront (u ++ more)) (front-alike u more h))
+sheet-cut = cut-at readSheet 285 (λ u more h. whole-alike more (readFront u) (readFront (u ++ more)) (front-alike u more h))
 
 length-read : (text : List ℕ) (c : Credentials) → readSheet text ≡ Sheet c → length text ≤ longestSheet
 length-read text c e =

@@ -11,7 +11,7 @@ use Rattle.rules.specs.Call.{answer}
 use Rattle.rules.specs.Run.{Step, result, run, lastOf, left}
 use Rattle.format.specs.declared.SheetReading.the-variants.{Sheet}
 use Rattle.format.specs.Line.{bytes, read, hexText, decimalOf, decimalText, keyedText, linesText, readHex, readDigits, readDecimal, afterKey, readLines}
-use Rattle.format.specs.Sheet.{idKinds, setKinds, flagKinds, sheetKinds, sheetText, readFront, readSheet}
+use Rattle.format.specs.Sheet.{idKinds, uidKinds, gidKinds, setKinds, flagKinds, sheetKinds, sheetText, readFront, readSheet}
 use Rattle.format.specs.Step.{stepKinds, readPairs, readStep}
 use Rattle.format.specs.Plan.{Plan, readSteps, readPlan}
 use Rattle.format.specs.Report.{resultKinds, resultText, resultsText, reportText, report, judged, verdict}
@@ -26,6 +26,7 @@ abbrev pub start : Credentials
 start =
     record {
       uids = record { real = 4294967294; effective = 4294967294; saved = 4294967294; filesystem = 4294967294 };
+      gids = record { real = 4294967294; effective = 4294967294; saved = 4294967294; filesystem = 4294967294 };
       sets = record { permitted = 0; inheritable = 0; effective = 0; bounding = 0; ambient = 0 };
       securebits = 0;
       nnp = false;
@@ -41,6 +42,7 @@ plan = record { start = start; steps = replicate 256 step }
 abbrev pub sheet : List ℕ
 sheet =
     bytes "ruid=4294967294\neuid=4294967294\nsuid=4294967294\nfsuid=4294967294\n"
+    ++ bytes "rgid=4294967294\negid=4294967294\nsgid=4294967294\nfsgid=4294967294\n"
     ++ bytes "permitted=0000000000000000\ninheritable=0000000000000000\neffective=0000000000000000\n"
     ++ bytes "bounding=0000000000000000\nambient=0000000000000000\nsecurebits=00\nnnp=0\n"
 
@@ -52,14 +54,14 @@ text =
     ++ bytes "attr=000000000000000000000000000000000000000000000000\n")
 
 pub sheet-read : readSheet sheet ≡ Sheet start
-unfolding valid readHex readDigits readDecimal afterKey readLines idKinds setKinds flagKinds sheetKinds readFront readSheet
+unfolding valid readHex readDigits readDecimal afterKey readLines idKinds uidKinds gidKinds setKinds flagKinds sheetKinds readFront readSheet
 sheet-read = refl
 
 pub sheet-length : length sheet ≡ longestSheet
 sheet-length = refl
 
 pub text-read : readPlan text ≡ read plan []
-unfolding times readHex readDigits readDecimal afterKey readLines idKinds setKinds flagKinds sheetKinds readFront stepKinds readPairs readStep readSteps readPlan
+unfolding times readHex readDigits readDecimal afterKey readLines idKinds uidKinds gidKinds setKinds flagKinds sheetKinds readFront stepKinds readPairs readStep readSteps readPlan
 text-read = refl
 
 pub text-length : length text ≡ longestPlan
@@ -81,7 +83,7 @@ results-length : length (resultsText (run start (plan .steps))) ≡ 7936
 unfolding valid decode answer result run hexText decimalOf decimalText keyedText linesText resultKinds resultText resultsText
 results-length = refl
 
--- and the start's sheet of 219, since nothing changes
+-- and the start's sheet of 284, since nothing changes
 start-left : left start (plan .steps) ≡ start
 unfolding valid decode answer result run lastOf
 start-left = refl

@@ -8,7 +8,7 @@ use native.Mathlib.Omega.{arith}
 use borrow.Author.Tests.{ltb-true, leb-true, eqb-true, eqb-false}
 use lib.Dec.{ltb, leb, eqb}
 use Rattle.capabilities.proofs.Inclusion.{and-l, and-r}
-use Rattle.format.specs.Line.{Form, decimal, hex, Kind, hexText, decimalText, valueText, keyedText, keyText, lineText, linesText, Read, read, mapped, hexDigit, decimalDigit, newline, readHex, readDigits, readDecimal, readValue, afterKey, readKeyed, readLine, readLines}
+use Rattle.format.specs.Line.{Form, decimal, hex, Kind, hexText, decimalText, valueText, keyedText, lineText, linesText, Read, read, mapped, hexDigit, decimalDigit, newline, readHex, readDigits, readDecimal, readValue, afterKey, readKeyed, readLine, readLines}
 use Rattle.format.proofs.Decimals.{decimal-one, decimal-more}
 use Rattle.format.proofs.Digits.{hex-digit-written, decimal-digit-written}
 use Rattle.format.proofs.Reading.{fault-read, tested, tested-not, tested-cases, next-told, mapped-told}
@@ -134,7 +134,7 @@ lines-written (k ∷ ks) vs t rest e =
     let v = n .0 in
     let m = mapped-told vs rest (λ ws. v ∷ ws) (readLines ks (n .1)) (n .3) in
     let ws = m .0 in
-    let l = keyed-written (keyText k) (k .form) v t (n .1) (n .2) in
+    let l = keyed-written (k .key) (k .form) v t (n .1) (n .2) in
     let i = lines-written ks ws (n .1) rest (m .1) in
     rw (← (m .2))
     (l .0 ∙ ap (λ (xs : List ℕ). lineText k v ++ xs) (i .0) ∙ sym (append-assoc (lineText k v) (linesText ks ws) rest), (l .1, i .1))

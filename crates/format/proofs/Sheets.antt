@@ -12,7 +12,7 @@ use Rattle.credentials.specs.declared.Credentials.{Credentials}
 use Rattle.credentials.proofs.Valid.{valid-facts}
 use Rattle.rules.specs.Fields.{number}
 use Rattle.format.specs.Line.{linesText, read, mapped, readLines}
-use Rattle.format.specs.Sheet.{idKinds, setKinds, flagKinds, sheetKinds, sheetValues, sheetText, credentialsOf, readFront}
+use Rattle.format.specs.Sheet.{idKinds, uidKinds, gidKinds, setKinds, flagKinds, sheetKinds, sheetValues, sheetText, credentialsOf, readFront}
 use Rattle.format.specs.RoundTrip.{WritableSheet}
 use Rattle.format.proofs.Reading.{mapped-told}
 use Rattle.format.proofs.Fitting.{FitAll, placed, placed-same}
@@ -40,21 +40,21 @@ flag-small false = omega arith
 -- ---- credentials and their values
 
 values-read : (c : Credentials) → credentialsOf (sheetValues c) ≡ c
-values-read c = λ i. record { uids = c .uids; sets = c .sets; securebits = c .securebits; nnp = flag-read (c .nnp) i }
+values-read c = λ i. record { uids = c .uids; gids = c .gids; sets = c .sets; securebits = c .securebits; nnp = flag-read (c .nnp) i }
 
 -- the values of what a sheet can hold fit its lines
 pub values-fit : (c : Credentials) → WritableSheet c → FitAll sheetKinds (sheetValues c)
-unfolding FitAll idKinds setKinds flagKinds sheetKinds
-values-fit c w = omega (arith, w, flag-small (c .nnp))
+unfolding FitAll idKinds uidKinds gidKinds setKinds flagKinds sheetKinds
+values-fit c w = omega (arith, w .uids, w .gids, w, flag-small (c .nnp))
 
 values-written : (vs : List ℕ) → FitAll sheetKinds vs → (vs ≡ sheetValues (credentialsOf vs)) × WritableSheet (credentialsOf vs)
-unfolding placed FitAll idKinds setKinds flagKinds sheetKinds
+unfolding placed FitAll idKinds uidKinds gidKinds setKinds flagKinds sheetKinds
 values-written vs h =
     let at : ℕ → ℕ = λ i. getD vs i 0 in
     let e : vs ≡ placed sheetKinds at = placed-same sheetKinds vs h in
     let fit : FitAll sheetKinds (placed sheetKinds at) = subst (FitAll sheetKinds) e h in
-    let flag : at 10 ≡ number (eqb (at 10) 1) = flag-written (at 10) (omega (arith, fit)) in
-    (e ∙ ap (λ (x : ℕ). at 0 ∷ at 1 ∷ at 2 ∷ at 3 ∷ at 4 ∷ at 5 ∷ at 6 ∷ at 7 ∷ at 8 ∷ at 9 ∷ x ∷ []) flag, omega (arith, fit))
+    let flag : at 14 ≡ number (eqb (at 14) 1) = flag-written (at 14) (omega (arith, fit)) in
+    (e ∙ ap (λ (x : ℕ). at 0 ∷ at 1 ∷ at 2 ∷ at 3 ∷ at 4 ∷ at 5 ∷ at 6 ∷ at 7 ∷ at 8 ∷ at 9 ∷ at 10 ∷ at 11 ∷ at 12 ∷ at 13 ∷ x ∷ []) flag, omega (arith, fit))
 
 -- ---- the sheet
 
@@ -81,6 +81,7 @@ valid-writable c h =
     omega (
       arith,
       v .uids,
+      v .gids,
       v .securebits-small,
       sub-le (s .permitted-full),
       sub-le (s .inheritable-full),

@@ -17,13 +17,13 @@ pub data Form : Type 0 where
   decimal : ℕ → Form
   hex : ℕ → Form
 
--- a kind of line: its key and its value's form
+-- a kind of line: its key with `=`, and its value's form
 pub record Kind : Type 0 where
-  pub key : String
+  pub key : List ℕ
   pub form : Form
 
 abbrev pub kind : String → Form → Kind
-kind key form = record { key = key; form = form }
+kind key form = record { key = bytes key; form = form }
 
 -- ---- written
 
@@ -50,17 +50,13 @@ abbrev pub valueText : Form → ℕ → List ℕ
 valueText (decimal largest) v = decimalText v
 valueText (hex n) v = hexText n v
 
--- a key and `=`
-abbrev pub keyText : Kind → List ℕ
-keyText k = bytes (k .key) ++ bytes "="
-
 -- a key with its `=`, a value's text and a newline
 unfoldable pub keyedText : List ℕ → List ℕ → List ℕ
 keyedText key value = key ++ (value ++ bytes "\n")
 
 -- the line of a kind
 abbrev pub lineText : Kind → ℕ → List ℕ
-lineText k v = keyedText (keyText k) (valueText (k .form) v)
+lineText k v = keyedText (k .key) (valueText (k .form) v)
 
 -- the lines of these kinds with these values, in this order
 unfoldable pub linesText : List Kind → List ℕ → List ℕ
@@ -144,7 +140,7 @@ readKeyed key form t = afterKey key (readValue form) t
 
 -- a line of a kind
 abbrev pub readLine : Kind → List ℕ → Read ℕ
-readLine k t = readKeyed (keyText k) (k .form) t
+readLine k t = readKeyed (k .key) (k .form) t
 
 -- lines of these kinds, in this order: their values
 unfoldable pub readLines : List Kind → List ℕ → Read (List ℕ)

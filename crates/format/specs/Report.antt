@@ -13,7 +13,7 @@ use Rattle.format.specs.Plan.{Plan, readPlan}
 
 -- the two lines of a step's result: code in decimal, value in 16 hex digits
 unfoldable pub resultKinds : List Kind
-resultKinds = kind "code" (decimal 99) ∷ kind "value" (hex 16) ∷ []
+resultKinds = kind "code=" (decimal 99) ∷ kind "value=" (hex 16) ∷ []
 
 unfoldable pub resultText : Result → List ℕ
 resultText r = linesText resultKinds (r .code ∷ r .value ∷ [])

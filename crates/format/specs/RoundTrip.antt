@@ -6,6 +6,7 @@ use mathlib.Core.List.{List, [], _∷_, _++_}
 use lib.ListN.{length}
 use Rattle.attribute.specs.Words.{Bytes}
 use Rattle.credentials.specs.Validity.{valid}
+use Rattle.credentials.specs.declared.Ids.{Ids}
 use Rattle.credentials.specs.declared.Credentials.{Credentials}
 use Rattle.rules.specs.Run.{Step}
 use Rattle.format.specs.declared.SheetReading.the-variants.{Sheet}
@@ -35,12 +36,17 @@ pub record StepRoundTrip : Type 0 where
   pub written-read : (s : Step) (rest : List ℕ) → Writable s → readStep (stepText s ++ rest) ≡ read s rest
   pub read-written : (text : List ℕ) (s : Step) (rest : List ℕ) → readStep text ≡ read s rest → (text ≡ stepText s ++ rest) × Writable s
 
--- what a sheet can hold, valid or not: IDs up to 4294967295, sets of 64 bits, securebits up to 255
+-- four IDs that a sheet can hold: up to 4294967295
+pub record WritableIds (u : Ids) : Type 0 where
+  pub real : u .real ≤ 4294967295
+  pub effective : u .effective ≤ 4294967295
+  pub saved : u .saved ≤ 4294967295
+  pub filesystem : u .filesystem ≤ 4294967295
+
+-- what a sheet can hold, valid or not: such user and group IDs, sets of 64 bits, securebits up to 255
 pub record WritableSheet (c : Credentials) : Type 0 where
-  pub real : c .uids .real ≤ 4294967295
-  pub effective-id : c .uids .effective ≤ 4294967295
-  pub saved : c .uids .saved ≤ 4294967295
-  pub filesystem : c .uids .filesystem ≤ 4294967295
+  pub uids : WritableIds (c .uids)
+  pub gids : WritableIds (c .gids)
   pub permitted : c .sets .permitted < 2 ^ 64
   pub inheritable : c .sets .inheritable < 2 ^ 64
   pub effective : c .sets .effective < 2 ^ 64

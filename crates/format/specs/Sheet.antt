@@ -12,38 +12,44 @@ use Rattle.credentials.specs.declared.Credentials.{Credentials}
 use Rattle.rules.specs.Fields.{number}
 use Rattle.format.specs.declared.SheetReading.{SheetReading}
 use Rattle.format.specs.declared.SheetReading.the-variants.{Sheet, Malformed, Invalid}
-use Rattle.format.specs.Line.{Kind, kind, decimal, hex, linesText, Read, read, faultAt, mapped, readLines}
+use Rattle.format.specs.Line.{bytes, Kind, kind, decimal, hex, linesText, Read, read, faultAt, mapped, readLines}
 
--- the user IDs: decimal up to 4294967295
-unfoldable pub idKinds : List Kind
-idKinds =
-    kind "ruid" (decimal 4294967295) ∷
-    kind "euid" (decimal 4294967295) ∷
-    kind "suid" (decimal 4294967295) ∷
-    kind "fsuid" (decimal 4294967295) ∷
-    []
+-- a real, an effective, a saved and a filesystem ID under these keys: decimal up to 4294967295
+abbrev idKind : List ℕ → Kind
+idKind key = record { key = key; form = decimal 4294967295 }
+
+unfoldable pub idKinds : List ℕ → List ℕ → List ℕ → List ℕ → List Kind
+idKinds real effective saved filesystem = idKind real ∷ idKind effective ∷ idKind saved ∷ idKind filesystem ∷ []
+
+-- the user IDs
+unfoldable pub uidKinds : List Kind
+uidKinds = idKinds (bytes "ruid=") (bytes "euid=") (bytes "suid=") (bytes "fsuid=")
+
+-- the group IDs
+unfoldable pub gidKinds : List Kind
+gidKinds = idKinds (bytes "rgid=") (bytes "egid=") (bytes "sgid=") (bytes "fsgid=")
 
 -- the capability sets: 16 hex digits
 unfoldable pub setKinds : List Kind
 setKinds =
-    kind "permitted" (hex 16) ∷
-    kind "inheritable" (hex 16) ∷
-    kind "effective" (hex 16) ∷
-    kind "bounding" (hex 16) ∷
-    kind "ambient" (hex 16) ∷
+    kind "permitted=" (hex 16) ∷
+    kind "inheritable=" (hex 16) ∷
+    kind "effective=" (hex 16) ∷
+    kind "bounding=" (hex 16) ∷
+    kind "ambient=" (hex 16) ∷
     []
 
 -- securebits, 2 hex digits, and no-new-privs, 0 or 1
 unfoldable pub flagKinds : List Kind
-flagKinds = kind "securebits" (hex 2) ∷ kind "nnp" (decimal 1) ∷ []
+flagKinds = kind "securebits=" (hex 2) ∷ kind "nnp=" (decimal 1) ∷ []
 
--- the eleven lines of a sheet, in order
+-- the fifteen lines of a sheet, in order
 unfoldable pub sheetKinds : List Kind
-sheetKinds = idKinds ++ (setKinds ++ flagKinds)
+sheetKinds = uidKinds ++ (gidKinds ++ (setKinds ++ flagKinds))
 
 -- ---- written
 
--- the values of a sheet's lines: the user IDs, the capability sets, securebits and no-new-privs
+-- the values of a sheet's lines: user or group IDs, the capability sets, securebits and no-new-privs
 abbrev pub idValues : Ids → List ℕ
 idValues u = u .real ∷ u .effective ∷ u .saved ∷ u .filesystem ∷ []
 
@@ -54,7 +60,7 @@ abbrev pub flagValues : ℕ → Bool → List ℕ
 flagValues securebits nnp = securebits ∷ number nnp ∷ []
 
 abbrev pub sheetValues : Credentials → List ℕ
-sheetValues c = idValues (c .uids) ++ (setValues (c .sets) ++ flagValues (c .securebits) (c .nnp))
+sheetValues c = idValues (c .uids) ++ (idValues (c .gids) ++ (setValues (c .sets) ++ flagValues (c .securebits) (c .nnp)))
 
 -- the sheet of credentials
 unfoldable pub sheetText : Credentials → List ℕ
@@ -67,9 +73,10 @@ abbrev pub credentialsOf : List ℕ → Credentials
 credentialsOf vs =
     record {
       uids = record { real = getD vs 0 0; effective = getD vs 1 0; saved = getD vs 2 0; filesystem = getD vs 3 0 };
-      sets = record { permitted = getD vs 4 0; inheritable = getD vs 5 0; effective = getD vs 6 0; bounding = getD vs 7 0; ambient = getD vs 8 0 };
-      securebits = getD vs 9 0;
-      nnp = eqb (getD vs 10 0) 1;
+      gids = record { real = getD vs 4 0; effective = getD vs 5 0; saved = getD vs 6 0; filesystem = getD vs 7 0 };
+      sets = record { permitted = getD vs 8 0; inheritable = getD vs 9 0; effective = getD vs 10 0; bounding = getD vs 11 0; ambient = getD vs 12 0 };
+      securebits = getD vs 13 0;
+      nnp = eqb (getD vs 14 0) 1;
     }
 
 -- a text that begins with a sheet

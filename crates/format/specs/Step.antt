@@ -9,7 +9,7 @@ use Rattle.format.specs.Line.{bytes, Kind, kind, decimal, hex, hexText, 
 
 -- its first four lines: the call's number, 0 to 99, and the operands, 16 hex digits
 unfoldable pub stepKinds : List Kind
-stepKinds = kind "call" (decimal 99) ∷ kind "a" (hex 16) ∷ kind "b" (hex 16) ∷ kind "c" (hex 16) ∷ []
+stepKinds = kind "call=" (decimal 99) ∷ kind "a=" (hex 16) ∷ kind "b=" (hex 16) ∷ kind "c=" (hex 16) ∷ []
 
 -- the key of its last line
 abbrev pub attributeKey : List ℕ

@@ -13,17 +13,17 @@ use Rattle.format.specs.Report.{report, malformed, invalid, verdict, out
 
 -- ---- parts of the texts
 
--- the start of case 2: IDs 1000, P = I = E = A = {13}, B full
+-- the start of case 2: user and group IDs 1000, P = I = E = A = {13}, B full
 abbrev pub start : List ℕ
 start =
-    bytes "ruid=1000\neuid=1000\nsuid=1000\nfsuid=1000\n"
+    bytes "ruid=1000\neuid=1000\nsuid=1000\nfsuid=1000\nrgid=1000\negid=1000\nsgid=1000\nfsgid=1000\n"
     ++ bytes "permitted=0000000000002000\ninheritable=0000000000002000\neffective=0000000000002000\n"
     ++ bytes "bounding=000001ffffffffff\nambient=0000000000002000\nsecurebits=00\nnnp=0\n"
 
 -- the same with a real ID of 4294967295, which can be written and is not valid
 abbrev pub noId : List ℕ
 noId =
-    bytes "ruid=4294967295\neuid=1000\nsuid=1000\nfsuid=1000\n"
+    bytes "ruid=4294967295\neuid=1000\nsuid=1000\nfsuid=1000\nrgid=1000\negid=1000\nsgid=1000\nfsgid=1000\n"
     ++ bytes "permitted=0000000000002000\ninheritable=0000000000002000\neffective=0000000000002000\n"
     ++ bytes "bounding=000001ffffffffff\nambient=0000000000002000\nsecurebits=00\nnnp=0\n"
 
@@ -47,6 +47,7 @@ abbrev pub held : ℕ → Credentials
 held real =
     record {
       uids = record { real = real; effective = 1000; saved = 1000; filesystem = 1000 };
+      gids = record { real = 1000; effective = 1000; saved = 1000; filesystem = 1000 };
       sets = record { permitted = 0x2000; inheritable = 0x2000; effective = 0x2000; bounding = 0x1ffffffffff; ambient = 0x2000 };
       securebits = 0;
       nnp = false;
@@ -65,7 +66,7 @@ pub record TextsHold : Type 0 where
   pub case-2 : verdict (start ++ plain)
       ≡ report
       (bytes "code=0\nvalue=0000000000000000\n"
-      ++ bytes "ruid=1000\neuid=1000\nsuid=1000\nfsuid=1000\n"
+      ++ bytes "ruid=1000\neuid=1000\nsuid=1000\nfsuid=1000\nrgid=1000\negid=1000\nsgid=1000\nfsgid=1000\n"
       ++ bytes "permitted=0000000000002000\ninheritable=0000000000002000\neffective=0000000000002000\n"
       ++ bytes "bounding=000001ffffffffff\nambient=0000000000002000\nsecurebits=00\nnnp=0\n")
   -- a refused step does not stop the plan: call 99 is none; then a launch under case 3's attribute
@@ -75,32 +76,34 @@ pub record TextsHold : Type 0 where
       ++ launch ++ bytes "attr=0100000200040000000000000000000000000000\n")
       ≡ report
       (bytes "code=22\nvalue=0000000000000000\ncode=0\nvalue=0000000000000000\n"
-      ++ bytes "ruid=1000\neuid=1000\nsuid=1000\nfsuid=1000\n"
+      ++ bytes "ruid=1000\neuid=1000\nsuid=1000\nfsuid=1000\nrgid=1000\negid=1000\nsgid=1000\nfsgid=1000\n"
       ++ bytes "permitted=0000000000000400\ninheritable=0000000000002000\neffective=0000000000000400\n"
       ++ bytes "bounding=000001ffffffffff\nambient=0000000000000000\nsecurebits=00\nnnp=0\n")
   -- empty text gives line 1
   pub empty : verdict [] ≡ malformed 1
-  -- a 257th step gives line 1292
-  pub step-257 : verdict (start ++ (times 256 plain ++ plain)) ≡ malformed 1292
+  -- a 257th step gives line 1296
+  pub step-257 : verdict (start ++ (times 256 plain ++ plain)) ≡ malformed 1296
   -- no leading zeros
   pub leading-zero : verdict (bytes "ruid=0\neuid=01\n") ≡ malformed 2
+  -- the group IDs follow the user IDs: a sheet without them is at fault there
+  pub group-ids-due : verdict (bytes "ruid=0\neuid=0\nsuid=0\nfsuid=0\npermitted=0000000000000000\n") ≡ malformed 5
   -- hex letters are lower case
-  pub upper-case : verdict (bytes "ruid=0\neuid=0\nsuid=0\nfsuid=0\npermitted=000000000000000A\n") ≡ malformed 5
+  pub upper-case : verdict (bytes "ruid=0\neuid=0\nsuid=0\nfsuid=0\nrgid=0\negid=0\nsgid=0\nfsgid=0\npermitted=000000000000000A\n") ≡ malformed 9
   -- an even number of attribute digits
-  pub odd-digits : verdict (start ++ launch ++ bytes "attr=0\n") ≡ malformed 16
+  pub odd-digits : verdict (start ++ launch ++ bytes "attr=0\n") ≡ malformed 20
   -- a decimal number is up to 4294967295, and an ID is valid up to 4294967294
   pub above-decimal : verdict (bytes "ruid=4294967296\n") ≡ malformed 1
   pub above-valid : verdict noId ≡ invalid
   -- 70 comes before 72, wherever in the text the fault is
-  pub fault-first : verdict (noId ++ bytes "call=") ≡ malformed 12
+  pub fault-first : verdict (noId ++ bytes "call=") ≡ malformed 16
   -- the sheet reader: text past the sheet is a fault at the next line, and that comes before 72
-  pub past-the-sheet : readSheet (noId ++ bytes "\n") ≡ Malformed 12
+  pub past-the-sheet : readSheet (noId ++ bytes "\n") ≡ Malformed 16
   pub invalid-sheet : readSheet noId ≡ Invalid
   -- the sheet writer: 72 comes before 28, and bytes past the sheet stay
   pub invalid-first : sheetAnswer (held 4294967295) 0 ≡ record { code = 72; length = 0 }
-  pub written-sheet : sheetBuffer (held 1000) (sevens 197) ≡ start ++ (7 ∷ 7 ∷ [])
+  pub written-sheet : sheetBuffer (held 1000) (sevens 238) ≡ start ++ (7 ∷ 7 ∷ [])
   -- the plan runner: bytes past the report stay
-  pub written-report : buffer (verdict start) (sevens 197) ≡ start ++ (7 ∷ 7 ∷ [])
-  -- the C interface's number, code times 4294967296 plus line or length: case 2 and its 225 bytes; a byte less room, 28; a fault at line 12; 72
-  pub numbers : numberOf (start ++ plain) 225 ∷ numberOf (start ++ plain) 224 ∷ numberOf (start ++ bytes "\n") 225 ∷ numberOf noId 225 ∷ []
-      ≡ 225 ∷ (28 * 4294967296) ∷ (70 * 4294967296 + 12) ∷ (72 * 4294967296) ∷ []
+  pub written-report : buffer (verdict start) (sevens 238) ≡ start ++ (7 ∷ 7 ∷ [])
+  -- the C interface's number, code times 4294967296 plus line or length: case 2 and its 266 bytes; a byte less room, 28; a fault at line 16; 72
+  pub numbers : numberOf (start ++ plain) 266 ∷ numberOf (start ++ plain) 265 ∷ numberOf (start ++ bytes "\n") 266 ∷ numberOf noId 266 ∷ []
+      ≡ 266 ∷ (28 * 4294967296) ∷ (70 * 4294967296 + 16) ∷ (72 * 4294967296) ∷ []

@@ -7,7 +7,7 @@ use mathlib.Core.Bool.{Bool, true, false, cond, true≢false}
 use Prim.Native.Nat.{ℕ, _+_, _-_, _%_, _^_, _<_, _≤_}
 use lib.ListN.{length, take, drop, replicate, length-append, length-drop, length-replicate}
 use lib.Seq.{drop-append-seam, take-append-seam, drop-drop}
-use Rattle.format.specs.Line.{Form, Kind, keyText, valueText, keyedText, Read, read, faultAt, fault, below, next, mapped, newline, readValue, readKeyed, readLines}
+use Rattle.format.specs.Line.{Form, Kind, valueText, keyedText, Read, read, faultAt, fault, below, next, mapped, newline, readValue, readKeyed, readLines}
 use Rattle.format.specs.Step.{pairsText, readPairs, readAttribute}
 use Rattle.format.proofs.ReadWritten.{keyed-written}
 use Rattle.format.proofs.Pairs.{attribute-written}
@@ -56,7 +56,7 @@ lines-stay : (ks : List Kind) (text : List ℕ) (p : Place) → p .fault ≡ tru
 unfolding linesAt
 lines-stay [] text p h = refl
 lines-stay (k ∷ ks) text p h =
-    ap (λ (n : Number). linesAt ks text (n .place) .place) (number-by (keyText k) (k .form) text p true h) ∙ lines-stay ks text p h
+    ap (λ (n : Number). linesAt ks text (n .place) .place) (number-by (k .key) (k .form) text p true h) ∙ lines-stay ks text p h
 
 below-mapped : {A B : Type 0} (f : A → B) (n : ℕ) (r : Read A) → below n (below 1 (mapped f r)) ≡ mapped f (below (n + 1) r)
 below-mapped f n (read v t) = refl
@@ -80,7 +80,7 @@ seen-fault vs p q text e h =
 
 module _ (k : Kind) (ks : List Kind) (text : List ℕ) (p : Place) where
   abbrev line : List ℕ → Read ℕ
-  line t = readKeyed (keyText k) (k .form) t
+  line t = readKeyed (k .key) (k .form) t
 
   -- what the first line, which is read as r, and those after it come to
   first-seen : (r : Read ℕ) → line (drop (p .at) text) ≡ r → p .lines + (1 + length ks) < 2 ^ 32
@@ -89,15 +89,15 @@ module _ (k : Kind) (ks : List Kind) (text : List ℕ) (p : Place) where
       ≡ seen (record { values = readNumber text p r .value ∷ linesAt ks text (readNumber text p r .place) .values; place = linesAt ks text (readNumber text p r .place) .place }) text
   first-seen (read v rest) e b rec =
       let q = pastLine p (length text - length rest) in
-      let w = keyed-written (keyText k) (k .form) v (drop (p .at) text) rest e in
-      let d = rest-at text (keyedText (keyText k) (valueText (k .form) v)) rest (p .at) (w .0) (some-line (keyText k) (valueText (k .form) v)) in
+      let w = keyed-written (k .key) (k .form) v (drop (p .at) text) rest e in
+      let d = rest-at text (keyedText (k .key) (valueText (k .form) v)) rest (p .at) (w .0) (some-line (k .key) (valueText (k .form) v)) in
       let n : q .lines ≡ p .lines + 1 = mod-eq-of-lt (omega arith) in
       let s : below (p .lines + 1) (readLines ks rest) ≡ seen (linesAt ks text q) text =
       sym (ap (λ (m : ℕ). below m (readLines ks rest)) n) ∙ sym (ap (λ (t : List ℕ). below (q .lines) (readLines ks t)) d) ∙ rec q refl (omega (arith, n)) in
       below-mapped (λ vs. v ∷ vs) (p .lines) (readLines ks rest) ∙ ap (mapped (λ vs. v ∷ vs)) s ∙ sym (seen-first v (linesAt ks text q) text)
   first-seen (faultAt line) e b rec =
       let n : (p .lines + 1) % 2 ^ 32 ≡ p .lines + 1 = mod-eq-of-lt (omega arith) in
-      let one : _≡_ {A = Read ℕ} (faultAt line) fault = rw e at (key-in-line (keyText k) (readValue (k .form)) (drop (p .at) text) (value-in-line (k .form))) in
+      let one : _≡_ {A = Read ℕ} (faultAt line) fault = rw e at (key-in-line (k .key) (readValue (k .form)) (drop (p .at) text) (value-in-line (k .form))) in
       let l : line ≡ 1 = cc in
       ap (λ (m : ℕ). faultAt (p .lines + m)) l ∙ ap faultAt (sym n) ∙ sym (seen-fault _ (atFault p) _ text (lines-stay ks text (atFault p) refl) refl)
 
@@ -107,10 +107,10 @@ lines-seen : (ks : List Kind) (text : List ℕ) (p : Place) → p .fault ≡ fal
 unfolding linesAt readLines
 lines-seen [] text p h b = sym (ap (λ (t : Bool). cond t (faultAt (p .lines)) (read [] (drop (p .at) text))) h)
 lines-seen (k ∷ ks) text p h b =
-    first-seen k ks text p (readKeyed (keyText k) (k .form) (drop (p .at) text)) refl (omega (arith, b)) (lines-seen ks text)
+    first-seen k ks text p (readKeyed (k .key) (k .form) (drop (p .at) text)) refl (omega (arith, b)) (lines-seen ks text)
     ∙ sym (
     ap (λ (n : Number). seen (record { values = n .value ∷ linesAt ks text (n .place) .values; place = linesAt ks text (n .place) .place }) text)
-    (number-by (keyText k) (k .form) text p false h)
+    (number-by (k .key) (k .form) text p false h)
     )
 
 -- lines of two groups
@@ -120,7 +120,7 @@ pub lines-grouped : (ks ls : List Kind) (text : List ℕ) (p : Place)
 unfolding linesAt
 lines-grouped [] ls text p = refl
 lines-grouped (k ∷ ks) ls text p =
-    let n = numberAt (keyText k) (k .form) text p in
+    let n = numberAt (k .key) (k .form) text p in
     ap (λ (x : Values). record { values = n .value ∷ x .values; place = x .place }) (lines-grouped ks ls text (n .place))
 
 -- and where the first group has a fault, the second is not read
@@ -156,15 +156,15 @@ module _ (text : List ℕ) where
   pub lines-within : (ks : List Kind) (p : Place) → p .at ≤ length text → linesAt ks text p .place .at ≤ length text
   unfolding linesAt
   lines-within [] p h = h
-  lines-within (k ∷ ks) p h = lines-within ks (numberAt (keyText k) (k .form) text p .place) (number-within (keyText k) (k .form) p h)
+  lines-within (k ∷ ks) p h = lines-within ks (numberAt (k .key) (k .form) text p .place) (number-within (k .key) (k .form) p h)
 
   -- a fault is at one of the lines
   pub lines-most : (ks : List Kind) (p : Place) → linesAt ks text p .place .lines ≤ p .lines + length ks
   unfolding linesAt
   lines-most [] p = omega arith
   lines-most (k ∷ ks) p =
-      let n : numberAt (keyText k) (k .form) text p .place .lines ≤ p .lines + 1 = number-most (keyText k) (k .form) p in
-      omega (arith, n, lines-most ks (numberAt (keyText k) (k .form) text p .place))
+      let n : numberAt (k .key) (k .form) text p .place .lines ≤ p .lines + 1 = number-most (k .key) (k .form) p in
+      omega (arith, n, lines-most ks (numberAt (k .key) (k .form) text p .place))
 
 -- without a fault each line counts
 module _ (key : List ℕ) (form : Form) (text : List ℕ) (p : Place) (b : p .lines + 1 < 2 ^ 32) where
@@ -180,7 +180,7 @@ module _ (key : List ℕ) (form : Form) (text : List ℕ) (p : Place) (b : p .li
 
 module _ (k : Kind) (ks : List Kind) (text : List ℕ) (p : Place) where
   abbrev first : Place
-  first = numberAt (keyText k) (k .form) text p .place
+  first = numberAt (k .key) (k .form) text p .place
 
   counted-on : (t : Bool) → first .fault ≡ t → p .lines + (1 + length ks) < 2 ^ 32
       → ((q : Place) → q .lines + length ks < 2 ^ 32 → linesAt ks text q .place .fault ≡ false → linesAt ks text q .place .lines ≡ q .lines + length ks)
@@ -188,7 +188,7 @@ module _ (k : Kind) (ks : List Kind) (text : List ℕ) (p : Place) where
       → linesAt ks text first .place .lines ≡ p .lines + (1 + length ks)
   counted-on true e b rec h = absurd (true≢false (sym e ∙ sym (ap (λ (q : Place). q .fault) (lines-stay ks text first e)) ∙ h))
   counted-on false e b rec h =
-      let n : first .lines ≡ p .lines + 1 = number-counted (keyText k) (k .form) text p (omega (arith, b)) e in
+      let n : first .lines ≡ p .lines + 1 = number-counted (k .key) (k .form) text p (omega (arith, b)) e in
       let m : linesAt ks text first .place .lines ≡ first .lines + length ks = rec first (omega (arith, b, n)) h in
       omega (arith, n, m)
 
@@ -197,7 +197,7 @@ pub lines-counted : (ks : List Kind) (text : List ℕ) (p : Place) → p .lines 
 unfolding linesAt
 lines-counted [] text p b h = omega arith
 lines-counted (k ∷ ks) text p b h =
-    counted-on k ks text p (numberAt (keyText k) (k .form) text p .place .fault) refl (omega (arith, b)) (lines-counted ks text) h ∙ omega arith
+    counted-on k ks text p (numberAt (k .key) (k .form) text p .place .fault) refl (omega (arith, b)) (lines-counted ks text) h ∙ omega arith
 
 -- ---- an attribute's line
 

@@ -4,7 +4,7 @@ use mathlib.Core.List.{List, [], _∷_, _++_}
 use mathlib.Core.Bool.{Bool, true, false, cond}
 use lib.Dec.{ltb, eqb}
 use lib.ListN.{length, drop, replicate}
-use Rattle.format.specs.Line.{Form, Kind, keyText, hexDigit, Read, read, faultAt, readKeyed}
+use Rattle.format.specs.Line.{Form, Kind, hexDigit, Read, read, faultAt, readKeyed}
 use Rattle.format.specs.Step.{readAttribute}
 use Rattle.line_reader.specs.Positions.{pastLine, atFault, numberAt}
 use Rattle.line_reader.specs.declared.Place.{Place}
@@ -71,8 +71,8 @@ unfoldable pub linesAt : List Kind → List ℕ → Place → Values
 linesAt [] text p = record { values = []; place = p }
 linesAt (k ∷ ks) text p =
     record {
-      values = numberAt (keyText k) (k .form) text p .value ∷ linesAt ks text (numberAt (keyText k) (k .form) text p .place) .values;
-      place = linesAt ks text (numberAt (keyText k) (k .form) text p .place) .place;
+      values = numberAt (k .key) (k .form) text p .value ∷ linesAt ks text (numberAt (k .key) (k .form) text p .place) .values;
+      place = linesAt ks text (numberAt (k .key) (k .form) text p .place) .place;
     }
 
 -- what they come to: the values and the text after them, or the line of the fault

@@ -8,8 +8,8 @@ use lib.ListN.{length, drop, drop-of-length-le, length-append}
 use lib.Seq.{drop-cons}
 use Rattle.credentials.specs.Validity.{valid}
 use Rattle.credentials.specs.declared.Credentials.{Credentials}
-use Rattle.format.specs.Line.{Kind, keyText, valueText, lineText, linesText, Read, read, faultAt}
-use Rattle.format.specs.Sheet.{idKinds, setKinds, flagKinds, sheetKinds, sheetText, readFront, readSheet}
+use Rattle.format.specs.Line.{Kind, valueText, lineText, linesText, Read, read, faultAt}
+use Rattle.format.specs.Sheet.{idKinds, uidKinds, gidKinds, setKinds, flagKinds, sheetKinds, sheetText, readFront, readSheet}
 use Rattle.format.specs.declared.SheetReading.the-variants as reading
 use Rattle.format.proofs.Sheets.{front-written}
 use Rattle.line_reader.proofs.Answers.{rest-at, some-line}
@@ -20,10 +20,10 @@ use Rattle.sheet_reader.specs.Positions.{placedFront, frontOf}
 -- lines are not empty, and so no sheet is
 lines-some : (k : Kind) (ks : List Kind) (v : ℕ) (vs : List ℕ) → 0 < length (linesText (k ∷ ks) (v ∷ vs))
 unfolding linesText
-lines-some k ks v vs = omega (arith, length-append (lineText k v) (linesText ks vs), some-line (keyText k) (valueText (k .form) v))
+lines-some k ks v vs = omega (arith, length-append (lineText k v) (linesText ks vs), some-line (k .key) (valueText (k .form) v))
 
 sheet-some : (c : Credentials) → 0 < length (sheetText c)
-unfolding sheetText sheetKinds idKinds
+unfolding sheetText sheetKinds idKinds uidKinds
 sheet-some c = lines-some _ _ _ _
 
 -- what the front of a text tells: what was read, up to the position
@@ -84,8 +84,8 @@ module _ (text : List ℕ) where
   sheet-fault line h = rw (front-fault line h)
 
   -- text past the sheet
-  pub sheet-longer : (c : Credentials) (past : ℕ) (v : Bool) → Told text c past v → past < length text → reading.Malformed 12 ≡ readSheet text
-  unfolding readSheet sheetKinds idKinds setKinds flagKinds
+  pub sheet-longer : (c : Credentials) (past : ℕ) (v : Bool) → Told text c past v → past < length text → reading.Malformed 16 ≡ readSheet text
+  unfolding readSheet sheetKinds idKinds uidKinds gidKinds setKinds flagKinds
   sheet-longer c past v t g = rw (t .is, drop-cons text past 0 g)
 
   pub sheet-whole : (c : Credentials) (past : ℕ) → Told text c past true → length text ≤ past → reading.Sheet c ≡ readSheet text

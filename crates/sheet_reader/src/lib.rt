@@ -26,7 +26,7 @@ const LARGEST_WRITTEN_ID: u32 = 4294967295;
 const LARGEST_FLAG: u32 = 1;
 
 // How many lines a sheet has.
-const SHEET_LINES: u32 = 11;
+const SHEET_LINES: u32 = 15;
 
 // The sheet at the start of a text: its credentials and the position past it, told apart by whether they are valid; or the line of the first
 // fault.
@@ -36,7 +36,7 @@ pub enum Front {
     Fault(u32),
 }
 
-// The IDs, and the place past their lines.
+// Four IDs, and the place past their lines.
 struct IdLines {
     ids: Ids,
     place: Place,
@@ -55,21 +55,28 @@ struct FlagLines {
     place: Place,
 }
 
-// The lines of the user IDs at a place.
-fn read_ids(text: &[u8], place: Place) -> IdLines
-    ensures { λ r. ⌜ linesAt idKinds (now (text .entry)) place ≡ record { values = idValues (r .ids); place = r .place } ⌝ }
+// The lines of four IDs at a place, under these keys.
+fn read_ids(
+    text: &[u8],
+    place: Place,
+    real: &[u8],
+    effective: &[u8],
+    saved: &[u8],
+    filesystem: &[u8],
+) -> IdLines
+    ensures { λ r. ⌜ linesAt (idKinds (now (real .entry)) (now (effective .entry)) (now (saved .entry)) (now (filesystem .entry))) (now (text .entry)) place ≡ record { values = idValues (r .ids); place = r .place } ⌝ }
 {
-    let real = read_decimal(text, place, b"ruid=", LARGEST_WRITTEN_ID);
-    let effective = read_decimal(text, real.place, b"euid=", LARGEST_WRITTEN_ID);
-    let saved = read_decimal(text, effective.place, b"suid=", LARGEST_WRITTEN_ID);
-    let filesystem = read_decimal(text, saved.place, b"fsuid=", LARGEST_WRITTEN_ID);
+    let first = read_decimal(text, place, real, LARGEST_WRITTEN_ID);
+    let second = read_decimal(text, first.place, effective, LARGEST_WRITTEN_ID);
+    let third = read_decimal(text, second.place, saved, LARGEST_WRITTEN_ID);
+    let fourth = read_decimal(text, third.place, filesystem, LARGEST_WRITTEN_ID);
     let ids = Ids {
-        real: real.value,
-        effective: effective.value,
-        saved: saved.value,
-        filesystem: filesystem.value,
+        real: first.value,
+        effective: second.value,
+        saved: third.value,
+        filesystem: fourth.value,
     };
-    let place = filesystem.place;
+    let place = fourth.place;
     IdLines { ids, place }
 }
 
@@ -116,12 +123,17 @@ pub fn read_front(text: &[u8]) -> Front
         lines: 0,
         fault: false,
     };
-    let ids = read_ids(text, start);
-    let past_ids = ids.place;
-    if past_ids.fault {
-        return Front::Fault(past_ids.lines);
+    let users = read_ids(text, start, b"ruid=", b"euid=", b"suid=", b"fsuid=");
+    let past_users = users.place;
+    if past_users.fault {
+        return Front::Fault(past_users.lines);
     }
-    let held = read_sets(text, past_ids);
+    let groups = read_ids(text, past_users, b"rgid=", b"egid=", b"sgid=", b"fsgid=");
+    let past_groups = groups.place;
+    if past_groups.fault {
+        return Front::Fault(past_groups.lines);
+    }
+    let held = read_sets(text, past_groups);
     let past_sets = held.place;
     if past_sets.fault {
         return Front::Fault(past_sets.lines);
@@ -131,10 +143,12 @@ pub fn read_front(text: &[u8]) -> Front
     if end.fault {
         return Front::Fault(end.lines);
     }
-    let uids = ids.ids;
+    let uids = users.ids;
+    let gids = groups.ids;
     let sets = held.sets;
     let read = Credentials {
         uids,
+        gids,
         sets,
         securebits: flags.securebits,
         nnp: flags.nnp == 1,
