@@ -3,9 +3,10 @@
 // The sheet itself is defined in the crate `format`. Every function is proved, for every argument: no public one has a `requires`. The crate
 // assumes nothing.
 ghost use mathlib.Core.Path.{_≡_};
-ghost use Prim.Native.Nat.{_≤_};
+ghost use Prim.Native.Nat.{_+_, _≤_};
 ghost use lib.ListN.{length};
 ghost use Rattle.attribute.specs.Writer.{refused};
+ghost use Rattle.format.specs.Line.{decimalText};
 ghost use Rattle.format.specs.Sheet.{idKinds, setKinds, flagKinds, sheetKinds, sheetText, idValues, setValues, flagValues, sheetValues, sheetAnswer, sheetBuffer};
 ghost use Rattle.line_writer.specs.Inside.{linesPut};
 ghost use Rattle.sheet_writer.specs.Positions.{answerAt, bufferAt};
@@ -22,23 +23,31 @@ use line_writer::write_decimal;
 use line_writer::write_hex;
 
 // A sheet's length without the digits of its IDs: the keys, five sets, securebits, no-new-privs and the newlines.
-const FIXED_LENGTH: usize = 179;
+const FIXED_LENGTH: usize = 204;
 
 // How many hex digits a set and securebits have.
 const SET_DIGITS: u8 = 16;
 
 const SECUREBITS_DIGITS: u8 = 2;
 
-// How long the sheet of credentials is, valid or not: at most 259 bytes.
+// How long the sheet of credentials is, valid or not: at most 364 bytes.
 pub fn sheet_length(held: Credentials) -> usize
-    ensures { λ r. ⌜ (r ≡ length (sheetText held)) × (r ≤ 259) ⌝ }
+    ensures { λ r. ⌜ (r ≡ length (sheetText held)) × (r ≤ 364) ⌝ }
 {
-    let ids = held.uids;
+    let users = ids_length(held.uids);
+    let groups = ids_length(held.gids);
+    FIXED_LENGTH + users + groups
+}
+
+// How many digits four IDs have together: at most 80.
+fn ids_length(ids: Ids) -> usize
+    ensures { λ r. ⌜ (r ≡ length (decimalText (ids .real)) + length (decimalText (ids .effective)) + length (decimalText (ids .saved)) + length (decimalText (ids .filesystem))) × (r ≤ 80) ⌝ }
+{
     let real = decimal_length(ids.real);
     let effective = decimal_length(ids.effective);
     let saved = decimal_length(ids.saved);
     let filesystem = decimal_length(ids.filesystem);
-    FIXED_LENGTH + real + effective + saved + filesystem
+    real + effective + saved + filesystem
 }
 
 // The sheet of valid credentials at the front of a buffer: 72, then 28, and nothing written, or its length.
@@ -81,19 +90,28 @@ fn refused(code: u8) -> Written
 fn write_lines(buf: &mut [u8], at: usize, held: Credentials) -> usize
     ensures { λ r. ⌜ (r ≡ linesPut sheetKinds (sheetValues held) (now (buf .entry)) at .at) × (now (buf .exit) ≡ linesPut sheetKinds (sheetValues held) (now (buf .entry)) at .buffer) ⌝ }
 {
-    let p = write_ids(buf, at, held.uids);
-    let q = write_sets(buf, p, held.sets);
-    write_flags(buf, q, held.securebits, held.nnp)
+    let p = write_ids(buf, at, held.uids, b"ruid=", b"euid=", b"suid=", b"fsuid=");
+    let q = write_ids(buf, p, held.gids, b"rgid=", b"egid=", b"sgid=", b"fsgid=");
+    let u = write_sets(buf, q, held.sets);
+    write_flags(buf, u, held.securebits, held.nnp)
 }
 
-// The lines of the user IDs.
-fn write_ids(buf: &mut [u8], at: usize, ids: Ids) -> usize
-    ensures { λ r. ⌜ (r ≡ linesPut idKinds (idValues ids) (now (buf .entry)) at .at) × (now (buf .exit) ≡ linesPut idKinds (idValues ids) (now (buf .entry)) at .buffer) ⌝ }
+// The lines of four IDs, under these keys.
+fn write_ids(
+    buf: &mut [u8],
+    at: usize,
+    ids: Ids,
+    real: &[u8],
+    effective: &[u8],
+    saved: &[u8],
+    filesystem: &[u8],
+) -> usize
+    ensures { λ r. ⌜ (r ≡ linesPut (idKinds (now (real .entry)) (now (effective .entry)) (now (saved .entry)) (now (filesystem .entry))) (idValues ids) (now (buf .entry)) at .at) × (now (buf .exit) ≡ linesPut (idKinds (now (real .entry)) (now (effective .entry)) (now (saved .entry)) (now (filesystem .entry))) (idValues ids) (now (buf .entry)) at .buffer) ⌝ }
 {
-    let p = write_decimal(buf, at, b"ruid=", ids.real);
-    let q = write_decimal(buf, p, b"euid=", ids.effective);
-    let u = write_decimal(buf, q, b"suid=", ids.saved);
-    write_decimal(buf, u, b"fsuid=", ids.filesystem)
+    let p = write_decimal(buf, at, real, ids.real);
+    let q = write_decimal(buf, p, effective, ids.effective);
+    let u = write_decimal(buf, q, saved, ids.saved);
+    write_decimal(buf, u, filesystem, ids.filesystem)
 }
 
 // The lines of the capability sets.
