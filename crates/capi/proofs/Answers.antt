@@ -14,7 +14,7 @@ use denote.Enum.Declared.{tagOf}
 use Rattle.format.proofs.SheetReading.{the-type}
 use Rattle.format.specs.declared.SheetReading.{SheetReading}
 use Rattle.format.specs.declared.SheetReading.the-variants.{Sheet, Malformed, Invalid}
-use Rattle.format.specs.Sheet.{idKinds, setKinds, flagKinds, sheetKinds, sheetCode, sheetLine}
+use Rattle.format.specs.Sheet.{idKinds, uidKinds, gidKinds, setKinds, flagKinds, sheetKinds, sheetCode, sheetLine}
 use Rattle.capi.specs.Interface.{joined, givenNumber, givenIn, sheetNumber, sheetGiven, areValues}
 
 module _ (vs old : List ℕ) where
@@ -36,10 +36,10 @@ and-first : (x y : Bool) → x && y ≡ true → x ≡ true
 and-first true y h = refl
 and-first false y h = absurd (false≢true h)
 
--- values of credentials are eleven
-pub eleven : (vs : List ℕ) → areValues vs ≡ true → length vs ≡ 11
-unfolding areValues sheetKinds idKinds setKinds flagKinds
-eleven vs h = eqb-true (length vs) 11 (and-first (eqb (length vs) 11) (leb (getD vs 10 0) 1) h)
+-- values of credentials are fifteen
+pub fifteen : (vs : List ℕ) → areValues vs ≡ true → length vs ≡ 15
+unfolding areValues sheetKinds idKinds uidKinds gidKinds setKinds flagKinds
+fifteen vs h = eqb-true (length vs) 15 (and-first (eqb (length vs) 15) (leb (getD vs 14 0) 1) h)
 
 -- a sheet that is not read
 pub sheet-refused : (r : SheetReading) (old : List ℕ) → OneOf (1 ∷ 2 ∷ []) (tagOf the-type r)

@@ -48,7 +48,7 @@ sheetGiven Invalid old = old
 
 -- numbers are the values of credentials: one to each line of a sheet, and no-new-privs, the last, is 0 or 1
 unfoldable pub areValues : List ℕ → Bool
-areValues vs = eqb (length vs) (length sheetKinds) && leb (getD vs 10 0) 1
+areValues vs = eqb (length vs) (length sheetKinds) && leb (getD vs 14 0) 1
 
 -- the sheet writer: 72 for numbers that are the values of no credentials, too; then as for their credentials
 unfoldable pub valuesWritten : List ℕ → ℕ → Written

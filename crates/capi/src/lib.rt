@@ -25,7 +25,7 @@ use format::SheetReading;
 const CODE: u64 = 0x1_0000_0000;
 
 // How many numbers a sheet has, and a file's capabilities.
-const SHEET_VALUES: usize = 11;
+const SHEET_VALUES: usize = 15;
 
 const FILE_VALUES: usize = 4;
 
@@ -43,7 +43,7 @@ pub extern "C" fn urrezkalu_run_plan(plan: &[u8], report: &mut [u8]) -> u64
 }
 
 // Reads a text that is to be a sheet: 70 with the line of its fault, 72 where its credentials are not valid, 28 where values is shorter than
-// eleven, and in each case values stays; else 11, and the first eleven of values are those of the sheet's lines, in their order.
+// fifteen, and in each case values stays; else 15, and the first fifteen of values are those of the sheet's lines, in their order.
 #[no_mangle]
 pub extern "C" fn urrezkalu_read_sheet(text: &[u8], values: &mut [u64]) -> u64
     ensures { λ r. ⌜ (r ≡ sheetNumber (readSheet (now (text .entry))) (length (now (values .entry)))) × (now (values .exit) ≡ sheetGiven (readSheet (now (text .entry))) (now (values .entry))) ⌝ }
@@ -62,7 +62,7 @@ pub extern "C" fn urrezkalu_read_sheet(text: &[u8], values: &mut [u64]) -> u64
     joined(DONE, SHEET_VALUES as u32)
 }
 
-// Writes the sheet of the credentials whose values these are at the front of the buffer: 72 where there are not eleven of them, the last is neither 0
+// Writes the sheet of the credentials whose values these are at the front of the buffer: 72 where there are not fifteen of them, the last is neither 0
 // nor 1, or the credentials are not valid, then 28 where the sheet is longer than the buffer, and in each case nothing is written; else the sheet's length.
 #[no_mangle]
 pub extern "C" fn urrezkalu_write_sheet(values: &[u64], sheet: &mut [u8]) -> u64
@@ -122,14 +122,14 @@ fn are_values(values: &[u64]) -> bool
     ensures { λ r. ⌜ r ≡ areValues (now (values .entry)) ⌝ }
 {
     if values.len() == SHEET_VALUES {
-        return values[10] <= 1;
+        return values[14] <= 1;
     }
     false
 }
 
 // The credentials of a sheet's values.
 fn credentials_of(values: &[u64]) -> Credentials
-    requires { ⌜ length (now values) ≡ 11 ⌝ }
+    requires { ⌜ length (now values) ≡ 15 ⌝ }
     ensures { λ r. ⌜ r ≡ credentialsOf (now (values .entry)) ⌝ }
 {
     let uids = Ids {
@@ -138,37 +138,48 @@ fn credentials_of(values: &[u64]) -> Credentials
         saved: values[2],
         filesystem: values[3],
     };
+    let gids = Ids {
+        real: values[4],
+        effective: values[5],
+        saved: values[6],
+        filesystem: values[7],
+    };
     let sets = Sets {
-        permitted: values[4],
-        inheritable: values[5],
-        effective: values[6],
-        bounding: values[7],
-        ambient: values[8],
+        permitted: values[8],
+        inheritable: values[9],
+        effective: values[10],
+        bounding: values[11],
+        ambient: values[12],
     };
     Credentials {
         uids,
+        gids,
         sets,
-        securebits: values[9],
-        nnp: values[10] == 1,
+        securebits: values[13],
+        nnp: values[14] == 1,
     }
 }
 
 // The values of a sheet's lines, at the front of values.
 fn put_credentials(values: &mut [u64], held: Credentials)
-    requires { ⌜ 11 ≤ length (now values) ⌝ }
-    ensures { λ _. ⌜ now (values .exit) ≡ sheetValues held ++ drop 11 (now (values .entry)) ⌝ }
+    requires { ⌜ 15 ≤ length (now values) ⌝ }
+    ensures { λ _. ⌜ now (values .exit) ≡ sheetValues held ++ drop 15 (now (values .entry)) ⌝ }
 {
     values[0] = held.uids.real;
     values[1] = held.uids.effective;
     values[2] = held.uids.saved;
     values[3] = held.uids.filesystem;
-    values[4] = held.sets.permitted;
-    values[5] = held.sets.inheritable;
-    values[6] = held.sets.effective;
-    values[7] = held.sets.bounding;
-    values[8] = held.sets.ambient;
-    values[9] = held.securebits;
-    values[10] = held.nnp as u64;
+    values[4] = held.gids.real;
+    values[5] = held.gids.effective;
+    values[6] = held.gids.saved;
+    values[7] = held.gids.filesystem;
+    values[8] = held.sets.permitted;
+    values[9] = held.sets.inheritable;
+    values[10] = held.sets.effective;
+    values[11] = held.sets.bounding;
+    values[12] = held.sets.ambient;
+    values[13] = held.securebits;
+    values[14] = held.nnp as u64;
 }
 
 // A file's capabilities as numbers, at the front of values.

@@ -13,7 +13,7 @@ use Rattle.credentials.specs.Validity.{valid}
 use Rattle.credentials.specs.declared.Credentials.{Credentials}
 use Rattle.rules.specs.Run.{Result, run}
 use Rattle.format.specs.Line.{decimalText, linesText, read, faultAt}
-use Rattle.format.specs.Sheet.{idKinds, setKinds, flagKinds, sheetKinds, sheetText, readFront}
+use Rattle.format.specs.Sheet.{idKinds, uidKinds, gidKinds, setKinds, flagKinds, sheetKinds, sheetText, readFront}
 use Rattle.format.specs.Plan.{readSteps, readPlan}
 use Rattle.format.specs.Report.{resultKinds, resultText, resultsText, reportText, report, malformed, invalid, verdict, outcome, buffer}
 use Rattle.format.specs.declared.Outcome.{Outcome}
@@ -96,8 +96,8 @@ module _ (text : List ℕ) where
   front-at-fault line h = rw h
 
   pub steps-at-fault : (c : Credentials) (rest : List ℕ) (line : ℕ) → readFront text ≡ read c rest → ranSteps 256 c rest ≡ faultAt line
-      → verdict text ≡ malformed (11 + line)
-  unfolding verdict readPlan ranSteps sheetKinds idKinds setKinds flagKinds
+      → verdict text ≡ malformed (15 + line)
+  unfolding verdict readPlan ranSteps sheetKinds idKinds uidKinds gidKinds setKinds flagKinds
   steps-at-fault c rest line h g = rw (h, mapped-fault (ranOf c) (readSteps 256 rest) line g)
 
   pub plan-ran : (c : Credentials) (rest : List ℕ) (x : Ran) → readFront text ≡ read c rest → ranSteps 256 c rest ≡ read x []

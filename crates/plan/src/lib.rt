@@ -12,6 +12,6 @@ pub use runner::run_plan;
 const MOST_STEPS: usize = 256;
 
 // How many lines a sheet and a step have.
-const SHEET_LINES: u32 = 11;
+const SHEET_LINES: u32 = 15;
 
 const STEP_LINES: u32 = 5;

@@ -36,7 +36,7 @@ fn run(text: &mut [u8], report: &mut [u8])
 }
 
 fn main() {
-    let mut text = [0u8; 30684];
-    let mut report = [0u8; 8155];
+    let mut text = [0u8; 30749];
+    let mut report = [0u8; 8220];
     run(&mut text, &mut report);
 }

@@ -38,11 +38,23 @@ slice-write-values-9 c = simp length-set (omega (arith, c .pre))
 slice-write-values-10 : tie.Need-slice-write-values-10
 slice-write-values-10 c = simp length-set (omega (arith, c .pre))
 
+slice-write-values-11 : tie.Need-slice-write-values-11
+slice-write-values-11 c = simp length-set (omega (arith, c .pre))
+
+slice-write-values-12 : tie.Need-slice-write-values-12
+slice-write-values-12 c = simp length-set (omega (arith, c .pre))
+
+slice-write-values-13 : tie.Need-slice-write-values-13
+slice-write-values-13 c = simp length-set (omega (arith, c .pre))
+
+slice-write-values-14 : tie.Need-slice-write-values-14
+slice-write-values-14 c = simp length-set (omega (arith, c .pre))
+
 cast-values : tie.Need-cast-values
 cast-values c = search needs
 
-slice-write-values-11 : tie.Need-slice-write-values-11
-slice-write-values-11 c = simp length-set (omega (arith, c .before .pre))
+slice-write-values-15 : tie.Need-slice-write-values-15
+slice-write-values-15 c = simp length-set (omega (arith, c .before .pre))
 
 same-length : tie.Need-same-length
 same-length c = search needs
@@ -67,7 +79,11 @@ put-credentials-spec =
     slice-write-values-8
     slice-write-values-9
     slice-write-values-10
-    cast-values
     slice-write-values-11
+    slice-write-values-12
+    slice-write-values-13
+    slice-write-values-14
+    cast-values
+    slice-write-values-15
     same-length
     returns)

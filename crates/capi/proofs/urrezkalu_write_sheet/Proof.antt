@@ -1,7 +1,7 @@
 -- `capi::urrezkalu_write_sheet` meets its contract. Assumes nothing.
 use mathlib.Core.Path.{refl, sym, _∙_}
 use Rattle.capi.specs.Interface.{valuesWritten, valuesBuffer}
-use Rattle.capi.proofs.Answers.{eleven}
+use Rattle.capi.proofs.Answers.{fifteen}
 use borrow.Author.Needs.{needs}
 use Rattle.capi.proofs.urrezkalu_write_sheet.Statement.{statement}
 use Rattle.capi.proofs.urrezkalu_write_sheet.Tie as tie
@@ -10,7 +10,7 @@ are-values-requires : tie.Need-are-values-requires
 are-values-requires c κs = tt
 
 credentials-of-requires : tie.Need-credentials-of-requires
-credentials-of-requires c κs = eleven _ (sym (c .before .are-values .ensures) ∙ c .if1 .taken)
+credentials-of-requires c κs = fifteen _ (sym (c .before .are-values .ensures) ∙ c .if1 .taken)
 
 write-sheet-requires : tie.Need-write-sheet-requires
 write-sheet-requires c κs = tt
