@@ -6,15 +6,16 @@
 Each case is a name, a text, what the program has to write, and why. Nothing is computed from a rule: lines, codes, values and
 sheets were worked out by hand from the paper and typed in beside their reason; the functions below only join and repeat text.
 
-Line numbers: the sheet is lines 1 to 11; step k is lines 5k+7 to 5k+11 (step 1 is 12 to 16, step 256 is 1287 to 1291). A line is
+Line numbers: the sheet is lines 1 to 15; step k is lines 5k+11 to 5k+15 (step 1 is 16 to 20, step 256 is 1291 to 1295). A line is
 complete only with its newline, and a fault's line is one more than the complete correct lines before it.
 """
 import subprocess
 import sys
 
-KEYS = ["ruid", "euid", "suid", "fsuid", "permitted", "inheritable",
+KEYS = ["ruid", "euid", "suid", "fsuid", "rgid", "egid", "sgid", "fsgid", "permitted", "inheritable",
         "effective", "bounding", "ambient", "securebits", "nnp"]
 BASE = dict(ruid="1000", euid="1000", suid="1000", fsuid="1000",
+            rgid="1000", egid="1000", sgid="1000", fsgid="1000",
             permitted="0" * 16, inheritable="0" * 16, effective="0" * 16,
             bounding="000001ffffffffff", ambient="0" * 16,
             securebits="00", nnp="0")
@@ -63,42 +64,42 @@ LS = lines()
 add("empty", "", n70(1), "no byte at all; the paper says so: empty text gives 1")
 add("only-newline", "\n", n70(1), "line 1 is blank, so it is no `ruid=` line")
 add("zero-steps", SHEET, SHEET, "a sheet and 0 steps is a plan; the report is the sheet")
-add("sheet-no-last-newline", SHEET[:-1], n70(11),
-    "each line is ended by a newline, so `nnp=0` is not complete: 10 + 1")
-add("sheet-extra-newline", SHEET + "\n", n70(12), "a blank line is no `call=` line: 11 + 1")
+add("sheet-no-last-newline", SHEET[:-1], n70(15),
+    "each line is ended by a newline, so `nnp=0` is not complete: 14 + 1")
+add("sheet-extra-newline", SHEET + "\n", n70(16), "a blank line is no `call=` line: 15 + 1")
 add("one-step", SHEET + step(), rep([(0, 0)], SHEET), "one step, call 10 answers securebits 0")
-add("attr-no-last-newline", (SHEET + step())[:-1], n70(16),
-    "`attr=` without a newline is not complete: 15 + 1")
-add("attr-digits-no-last-newline", (SHEET + step(1, attr=NETRAW))[:-1], n70(16),
+add("attr-no-last-newline", (SHEET + step())[:-1], n70(20),
+    "`attr=` without a newline is not complete: 19 + 1")
+add("attr-digits-no-last-newline", (SHEET + step(1, attr=NETRAW))[:-1], n70(20),
     "the same with a good attribute in the line")
-add("one-step-extra-newline", SHEET + step() + "\n", n70(17), "blank line after step 1: 16 + 1")
-add("one-step-extra-space", SHEET + step() + " ", n70(17), "one space after step 1 is text, and no step")
-for k in range(1, 11):
+add("one-step-extra-newline", SHEET + step() + "\n", n70(21), "blank line after step 1: 20 + 1")
+add("one-step-extra-space", SHEET + step() + " ", n70(21), "one space after step 1 is text, and no step")
+for k in range(1, 15):
     add(f"sheet-cut-after-line-{k:02d}", "".join(LS[:k]), n70(k + 1),
         f"complete correct lines: {k}; then nothing where `{KEYS[k]}=` must stand: {k} + 1")
 ST = step(4, a="0000000000000011").splitlines(keepends=True)
-add("step-cut-after-call", SHEET + "".join(ST[:1]), n70(13), "12 complete lines, `a=` missing: 12 + 1")
-add("step-cut-after-a", SHEET + "".join(ST[:2]), n70(14), "13 complete lines, `b=` missing: 13 + 1")
-add("step-cut-after-b", SHEET + "".join(ST[:3]), n70(15), "14 complete lines, `c=` missing: 14 + 1")
-add("step-cut-after-c", SHEET + "".join(ST[:4]), n70(16), "15 complete lines, `attr=` missing: 15 + 1")
+add("step-cut-after-call", SHEET + "".join(ST[:1]), n70(17), "16 complete lines, `a=` missing: 16 + 1")
+add("step-cut-after-a", SHEET + "".join(ST[:2]), n70(18), "17 complete lines, `b=` missing: 17 + 1")
+add("step-cut-after-b", SHEET + "".join(ST[:3]), n70(19), "18 complete lines, `c=` missing: 18 + 1")
+add("step-cut-after-c", SHEET + "".join(ST[:4]), n70(20), "19 complete lines, `attr=` missing: 19 + 1")
 add("step-cut-after-attr", SHEET + "".join(ST[:5]), rep([(0, 1)], SHEET),
     "cut after the fifth line is a whole step: call 4 on 17 answers 1")
-add("second-step-cut-after-call", SHEET + step() + "".join(ST[:1]), n70(18), "17 complete lines: 17 + 1")
-add("second-step-cut-after-a", SHEET + step() + "".join(ST[:2]), n70(19), "18 + 1")
-add("second-step-cut-after-b", SHEET + step() + "".join(ST[:3]), n70(20), "19 + 1")
-add("second-step-cut-after-c", SHEET + step() + "".join(ST[:4]), n70(21), "20 + 1")
-add("cut-inside-key", SHEET + "ca", n70(12), "an unfinished line is not complete: 11 + 1")
-add("cut-inside-mask", SHEET + "call=4\na=00000000", n70(13), "`a=` cut after 8 digits: 12 + 1")
-add("call-no-newline", SHEET + "call=4", n70(12), "the value is right but the line is not ended: 11 + 1")
+add("second-step-cut-after-call", SHEET + step() + "".join(ST[:1]), n70(22), "21 complete lines: 21 + 1")
+add("second-step-cut-after-a", SHEET + step() + "".join(ST[:2]), n70(23), "22 + 1")
+add("second-step-cut-after-b", SHEET + step() + "".join(ST[:3]), n70(24), "23 + 1")
+add("second-step-cut-after-c", SHEET + step() + "".join(ST[:4]), n70(25), "24 + 1")
+add("cut-inside-key", SHEET + "ca", n70(16), "an unfinished line is not complete: 15 + 1")
+add("cut-inside-mask", SHEET + "call=4\na=00000000", n70(17), "`a=` cut after 8 digits: 16 + 1")
+add("call-no-newline", SHEET + "call=4", n70(16), "the value is right but the line is not ended: 15 + 1")
 
 # ---- Line ends
 add("crlf-everywhere", (SHEET + step()).replace("\n", "\r\n"), n70(1),
     "the CR stands in the value of ruid: line 1")
-add("crlf-last-sheet-line", "".join(LS[:10]) + "nnp=0\r\n", n70(11), "`0\\r` is neither 0 nor 1: line 11")
-add("crlf-in-mask-line", "".join(LS[:4]) + "permitted=" + Z + "\r\n" + "".join(LS[5:]), n70(5),
-    "17 characters after `permitted=`: line 5")
-add("crlf-call-line", SHEET + step().replace("call=10\n", "call=10\r\n"), n70(12), "CR in call: line 12")
-add("crlf-attr-line", SHEET + step()[:-1] + "\r\n", n70(16), "CR is no hex digit: line 16")
+add("crlf-last-sheet-line", "".join(LS[:14]) + "nnp=0\r\n", n70(15), "`0\\r` is neither 0 nor 1: line 15")
+add("crlf-in-mask-line", "".join(LS[:8]) + "permitted=" + Z + "\r\n" + "".join(LS[9:]), n70(9),
+    "17 characters after `permitted=`: line 9")
+add("crlf-call-line", SHEET + step().replace("call=10\n", "call=10\r\n"), n70(16), "CR in call: line 16")
+add("crlf-attr-line", SHEET + step()[:-1] + "\r\n", n70(20), "CR is no hex digit: line 20")
 add("cr-alone", (SHEET + step()).replace("\n", "\r"), n70(1), "no newline at all, so line 1 never ends")
 
 # ---- Decimal values
@@ -135,17 +136,17 @@ add("id-30-zeros", S(ruid="0" * 30), n70(1), "thirty zeros are leading zeros: li
 add("id-zero-padded-to-10", S(fsuid="0000001000"), n70(4), "leading zeros: line 4")
 
 # ---- Sets, securebits, no-new-privs
-add("set-15-digits", S(permitted="0" * 15), n70(5), "16 digits wanted: line 5")
-add("set-17-digits", S(permitted="0" * 17), n70(5), "16 digits wanted: line 5")
-add("set-empty", S(ambient=""), n70(9), "16 digits wanted: line 9")
-add("set-upper-case", S(bounding="000001FFFFFFFFFF"), n70(8), "hex letters are lower case: line 8")
-add("set-one-upper", S(inheritable="000000000000000A"), n70(6), "the same for one letter: line 6")
-add("set-g", S(effective="000000000000000g"), n70(7), "`g` is no hex digit: line 7")
-add("set-0x", S(effective="0x00000000000000"), n70(7), "16 characters, but `x` is no hex digit: line 7")
-add("set-space-inside", S(ambient="00000000 0000000"), n70(9), "16 characters, but a blank is no digit: line 9")
-add("set-colon", S(permitted="000000000000000:"), n70(5), "`:` is the byte after `9`: line 5")
-add("set-backquote", S(permitted="000000000000000`"), n70(5), "the backquote is the byte before `a`: line 5")
-add("set-slash", S(permitted="000000000000000/"), n70(5), "`/` is the byte before `0`: line 5")
+add("set-15-digits", S(permitted="0" * 15), n70(9), "16 digits wanted: line 9")
+add("set-17-digits", S(permitted="0" * 17), n70(9), "16 digits wanted: line 9")
+add("set-empty", S(ambient=""), n70(13), "16 digits wanted: line 13")
+add("set-upper-case", S(bounding="000001FFFFFFFFFF"), n70(12), "hex letters are lower case: line 12")
+add("set-one-upper", S(inheritable="000000000000000A"), n70(10), "the same for one letter: line 10")
+add("set-g", S(effective="000000000000000g"), n70(11), "`g` is no hex digit: line 11")
+add("set-0x", S(effective="0x00000000000000"), n70(11), "16 characters, but `x` is no hex digit: line 11")
+add("set-space-inside", S(ambient="00000000 0000000"), n70(13), "16 characters, but a blank is no digit: line 13")
+add("set-colon", S(permitted="000000000000000:"), n70(9), "`:` is the byte after `9`: line 9")
+add("set-backquote", S(permitted="000000000000000`"), n70(9), "the backquote is the byte before `a`: line 9")
+add("set-slash", S(permitted="000000000000000/"), n70(9), "`/` is the byte before `0`: line 9")
 add("set-all-hex-letters",
     S(permitted="000000abcdef0000", inheritable="000000abcdef0000", effective="000000abcdef0000",
       ambient="000000abcdef0000"),
@@ -165,25 +166,25 @@ add("ambient-not-permitted", S(inheritable="0000000000000400", ambient="00000000
     "A within I but not within P: 72")
 add("permitted-outside-bounding", S(permitted="0000000000020000", bounding=Z),
     S(permitted="0000000000020000", bounding=Z), "P need not be within B: valid")
-add("securebits-1-digit", S(securebits="0"), n70(10), "2 digits wanted: line 10")
-add("securebits-3-digits", S(securebits="000"), n70(10), "2 digits wanted: line 10")
-add("securebits-empty", S(securebits=""), n70(10), "2 digits wanted: line 10")
+add("securebits-1-digit", S(securebits="0"), n70(14), "2 digits wanted: line 14")
+add("securebits-3-digits", S(securebits="000"), n70(14), "2 digits wanted: line 14")
+add("securebits-empty", S(securebits=""), n70(14), "2 digits wanted: line 14")
 add("securebits-ff", S(securebits="ff"), S(securebits="ff"), "255 is the greatest valid value")
-add("securebits-upper-FF", S(securebits="FF"), n70(10), "lower case: line 10")
-add("securebits-fF", S(securebits="fF"), n70(10), "lower case in both digits: line 10")
+add("securebits-upper-FF", S(securebits="FF"), n70(14), "lower case: line 14")
+add("securebits-fF", S(securebits="fF"), n70(14), "lower case in both digits: line 14")
 add("securebits-aa", S(securebits="aa"), S(securebits="aa"), "all four locks, no flag: valid")
 add("nnp-1", S(nnp="1"), S(nnp="1"), "0 or 1")
-add("nnp-2", S(nnp="2"), n70(11), "0 or 1: line 11")
-add("nnp-00", S(nnp="00"), n70(11), "one character: line 11")
-add("nnp-01", S(nnp="01"), n70(11), "one character: line 11")
-add("nnp-empty", S(nnp=""), n70(11), "0 or 1: line 11")
-add("nnp-space", S(nnp="0 "), n70(11), "0 or 1 and then the newline: line 11")
+add("nnp-2", S(nnp="2"), n70(15), "0 or 1: line 15")
+add("nnp-00", S(nnp="00"), n70(15), "one character: line 15")
+add("nnp-01", S(nnp="01"), n70(15), "one character: line 15")
+add("nnp-empty", S(nnp=""), n70(15), "0 or 1: line 15")
+add("nnp-space", S(nnp="0 "), n70(15), "0 or 1 and then the newline: line 15")
 
 # ---- Keys
 add("key-misspelt", SHEET.replace("ruid=", "uid="), n70(1), "`uid` is not `ruid`: line 1")
-add("key-longer", SHEET.replace("nnp=", "nnps="), n70(11), "`nnps` is not `nnp`: line 11")
-add("key-shorter", SHEET.replace("securebits=", "securebit="), n70(10), "`securebit`: line 10")
-add("key-upper", SHEET.replace("permitted=", "Permitted="), n70(5), "keys are as written: line 5")
+add("key-longer", SHEET.replace("nnp=", "nnps="), n70(15), "`nnps` is not `nnp`: line 15")
+add("key-shorter", SHEET.replace("securebits=", "securebit="), n70(14), "`securebit`: line 14")
+add("key-upper", SHEET.replace("permitted=", "Permitted="), n70(9), "keys are as written: line 9")
 add("key-indented", SHEET.replace("\nsuid=", "\n suid="), n70(3), "a blank before the key: line 3")
 add("key-space-before-equals", SHEET.replace("euid=", "euid ="), n70(2), "a blank before `=`: line 2")
 add("key-missing-equals", SHEET.replace("euid=1000", "euid1000"), n70(2), "no `=`: line 2")
@@ -191,53 +192,122 @@ add("key-colon", SHEET.replace("euid=1000", "euid:1000"), n70(2), "`:` is not `=
 add("key-double-equals", SHEET.replace("ruid=", "ruid=="), n70(1), "the second `=` is in the value: line 1")
 add("key-only", SHEET.replace("fsuid=1000\n", "fsuid\n"), n70(4), "neither `=` nor value: line 4")
 add("keys-swapped-first", LS[1] + LS[0] + "".join(LS[2:]), n70(1), "euid before ruid: fault at once, line 1")
-add("keys-swapped-sets", "".join(LS[:5]) + LS[6] + LS[5] + "".join(LS[7:]), n70(6),
-    "effective where inheritable must stand: line 6")
+add("keys-swapped-sets", "".join(LS[:9]) + LS[10] + LS[9] + "".join(LS[11:]), n70(10),
+    "effective where inheritable must stand: line 10")
 add("key-doubled-ruid", LS[0] + SHEET, n70(2), "a second ruid where euid must stand: line 2")
-add("key-doubled-nnp", SHEET + LS[10], n70(12), "a second nnp where `call=` must stand: line 12")
+add("key-doubled-nnp", SHEET + LS[14], n70(16), "a second nnp where `call=` must stand: line 16")
 add("key-left-out", "".join(LS[:2] + LS[3:]), n70(3), "fsuid where suid must stand: line 3")
-add("step-key-upper", SHEET + step().replace("call=", "Call="), n70(12), "line 12")
-add("step-key-misspelt", SHEET + step().replace("attr=", "attrs="), n70(16), "line 16")
-add("step-attr-no-equals", SHEET + step().replace("attr=", "attr"), n70(16), "`attr` without `=`: line 16")
-add("step-keys-swapped", SHEET + "call=10\nb=" + Z + "\na=" + Z + "\nc=" + Z + "\nattr=\n", n70(13),
-    "b where a must stand: line 13")
-add("step-call-doubled", SHEET + "call=10\n" + step(), n70(13), "a second call where a must stand: line 13")
-add("step-c-left-out", SHEET + step().replace("c=" + Z + "\n", ""), n70(15), "attr where c must stand: line 15")
-add("step-attr-left-out", SHEET + step().replace("attr=\n", "") + step(), n70(16),
-    "the next step's call where attr must stand: line 16")
-add("step-call-left-out", SHEET + step().replace("call=10\n", ""), n70(12), "a where call must stand: line 12")
-add("step-operand-d", SHEET + step().replace("c=", "d="), n70(15), "`d` is no operand: line 15")
+add("step-key-upper", SHEET + step().replace("call=", "Call="), n70(16), "line 16")
+add("step-key-misspelt", SHEET + step().replace("attr=", "attrs="), n70(20), "line 20")
+add("step-attr-no-equals", SHEET + step().replace("attr=", "attr"), n70(20), "`attr` without `=`: line 20")
+add("step-keys-swapped", SHEET + "call=10\nb=" + Z + "\na=" + Z + "\nc=" + Z + "\nattr=\n", n70(17),
+    "b where a must stand: line 17")
+add("step-call-doubled", SHEET + "call=10\n" + step(), n70(17), "a second call where a must stand: line 17")
+add("step-c-left-out", SHEET + step().replace("c=" + Z + "\n", ""), n70(19), "attr where c must stand: line 19")
+add("step-attr-left-out", SHEET + step().replace("attr=\n", "") + step(), n70(20),
+    "the next step's call where attr must stand: line 20")
+add("step-call-left-out", SHEET + step().replace("call=10\n", ""), n70(16), "a where call must stand: line 16")
+add("step-operand-d", SHEET + step().replace("c=", "d="), n70(19), "`d` is no operand: line 19")
+
+# ---- Group IDs in the sheet
+add("gid-zero", S(rgid="0", egid="0", sgid="0", fsgid="0"), S(rgid="0", egid="0", sgid="0", fsgid="0"),
+    "`0` itself has no leading zero; valid")
+add("gid-all-differ", S(rgid="1", egid="20", sgid="300", fsgid="4000"), S(rgid="1", egid="20", sgid="300", fsgid="4000"),
+    "0 steps: each group comes back in its own line")
+add("gid-4294967294", S(rgid="4294967294", egid="4294967294", sgid="4294967294", fsgid="4294967294"),
+    S(rgid="4294967294", egid="4294967294", sgid="4294967294", fsgid="4294967294"), "the greatest valid ID, in all four places")
+add("rgid-4294967295", S(rgid="4294967295"), N72, "readable (decimal up to 4294967295) but not valid (at most 4294967294): 72")
+add("egid-4294967295", S(egid="4294967295"), N72, "the same for egid")
+add("sgid-4294967295", S(sgid="4294967295"), N72, "the same for sgid")
+add("fsgid-4294967295", S(fsgid="4294967295"), N72, "the same for fsgid")
+add("rgid-4294967296", S(rgid="4294967296"), n70(5), "one above the greatest readable number: line 5")
+add("egid-4294967296", S(egid="4294967296"), n70(6), "the same at line 6")
+add("sgid-4294967296", S(sgid="4294967296"), n70(7), "the same at line 7")
+add("fsgid-4294967296", S(fsgid="4294967296"), n70(8), "the same at line 8")
+add("gid-wraps-32", S(egid="4294968296"), n70(6), "2^32 + 1000: must not wrap to 1000; line 6")
+add("gid-wraps-64", S(sgid="18446744073709552616"), n70(7), "2^64 + 1000: must not wrap to 1000; line 7")
+add("rgid-leading-zero", S(rgid="01000"), n70(5), "no leading zeros: line 5")
+add("egid-leading-zero", S(egid="00"), n70(6), "0 is written `0`: line 6")
+add("sgid-leading-zero", S(sgid="0000001000"), n70(7), "no leading zeros: line 7")
+add("fsgid-leading-zero", S(fsgid="07"), n70(8), "no leading zeros: line 8")
+add("rgid-empty", S(rgid=""), n70(5), "no digit is no decimal: line 5")
+add("egid-empty", S(egid=""), n70(6), "the same at line 6")
+add("sgid-empty", S(sgid=""), n70(7), "the same at line 7")
+add("fsgid-empty", S(fsgid=""), n70(8), "the same at line 8")
+add("rgid-minus", S(rgid="-1"), n70(5), "a sign is no digit: line 5")
+add("egid-plus", S(egid="+5"), n70(6), "a sign is no digit: line 6")
+add("sgid-plus", S(sgid="+1000"), n70(7), "a sign is no digit: line 7")
+add("fsgid-minus", S(fsgid="-2"), n70(8), "a sign is no digit: line 8")
+add("rgid-hex", S(rgid="0x3e8"), n70(5), "`x` is no digit: line 5")
+add("egid-hex-letters", S(egid="3e8"), n70(6), "decimal only: line 6")
+add("sgid-mask", S(sgid="00000000000003e8"), n70(7), "16 digits as in a set: leading zeros, line 7")
+add("fsgid-hex-letters", S(fsgid="3e8"), n70(8), "decimal only: line 8")
+add("rgid-space-before", S(rgid=" 5"), n70(5), "a blank is no digit: line 5")
+add("fsgid-space-after", S(fsgid="5 "), n70(8), "a blank is no digit: line 8")
+add("rgid-name", S(rgid="lp"), n70(5), "a number is wanted: line 5")
+add("rgid-list", S(rgid="1000,1000,1000,1000"), n70(5), "one number to a line: line 5")
+add("fsgid-cr", S(fsgid="1000\r"), n70(8), "CR is no digit: line 8")
+add("fsgid-no-newline", "".join(LS[:7]) + "fsgid=1000", n70(8), "the value is right but the line is not ended: 7 + 1")
+add("rgid-misspelt", SHEET.replace("\nrgid=", "\ngid="), n70(5), "`gid` is not `rgid`: line 5")
+add("egid-misspelt", SHEET.replace("\negid=", "\negids="), n70(6), "`egids` is not `egid`: line 6")
+add("sgid-misspelt", SHEET.replace("\nsgid=", "\nSgid="), n70(7), "keys are as written: line 7")
+add("fsgid-misspelt", SHEET.replace("\nfsgid=", "\nfgid="), n70(8), "`fgid` is not `fsgid`: line 8")
+add("rgid-missing-equals", SHEET.replace("\nrgid=1000", "\nrgid1000"), n70(5), "no `=`: line 5")
+add("fsgid-as-fsuid", SHEET.replace("\nfsgid=", "\nfsuid="), n70(8), "a second fsuid where fsgid must stand: line 8")
+add("rgid-left-out", "".join(LS[:4] + LS[5:]), n70(5), "egid where rgid must stand: line 5")
+add("egid-left-out", "".join(LS[:5] + LS[6:]), n70(6), "sgid where egid must stand: line 6")
+add("sgid-left-out", "".join(LS[:6] + LS[7:]), n70(7), "fsgid where sgid must stand: line 7")
+add("fsgid-left-out", "".join(LS[:7] + LS[8:]), n70(8), "permitted where fsgid must stand: line 8")
+add("rgid-doubled", "".join(LS[:5] + LS[4:]), n70(6), "a second rgid where egid must stand: line 6")
+add("egid-doubled", "".join(LS[:6] + LS[5:]), n70(7), "a second egid where sgid must stand: line 7")
+add("sgid-doubled", "".join(LS[:7] + LS[6:]), n70(8), "a second sgid where fsgid must stand: line 8")
+add("fsgid-doubled", "".join(LS[:8] + LS[7:]), n70(9), "a second fsgid where permitted must stand: line 9")
+add("rgid-egid-swapped", "".join(LS[:4] + [LS[5], LS[4]] + LS[6:]), n70(5), "egid where rgid must stand: line 5")
+add("egid-sgid-swapped", "".join(LS[:5] + [LS[6], LS[5]] + LS[7:]), n70(6), "sgid where egid must stand: line 6")
+add("sgid-fsgid-swapped", "".join(LS[:6] + [LS[7], LS[6]] + LS[8:]), n70(7), "fsgid where sgid must stand: line 7")
+add("fsgid-permitted-swapped", "".join(LS[:7] + [LS[8], LS[7]] + LS[9:]), n70(8), "permitted where fsgid must stand: line 8")
+add("rgid-before-fsuid", "".join(LS[:3] + [LS[4], LS[3]] + LS[5:]), n70(4), "rgid where fsuid must stand: line 4")
+add("groups-before-users", "".join(LS[4:8] + LS[:4] + LS[8:]), n70(1), "rgid where ruid must stand: line 1")
+add("groups-beside-users", "".join([LS[0], LS[4], LS[1], LS[5], LS[2], LS[6], LS[3], LS[7]] + LS[8:]), n70(2),
+    "rgid where euid must stand: line 2")
+add("groups-after-sets", "".join(LS[:4] + LS[8:13] + LS[4:8] + LS[13:]), n70(5), "permitted where rgid must stand: line 5")
+add("groups-at-the-end", "".join(LS[:4] + LS[8:] + LS[4:8]), n70(5), "permitted where rgid must stand: line 5")
+add("groups-doubled", "".join(LS[:8] + LS[4:]), n70(9), "a second rgid where permitted must stand: line 9")
+OLD = "".join(LS[:4] + LS[8:])
+add("sheet-without-groups", OLD, n70(5), "eleven lines without the groups: permitted where rgid must stand, line 5")
+add("sheet-without-groups-one-step", OLD + step(), n70(5), "the same with a step below it: line 5")
+add("sheet-without-groups-invalid", OLD.replace("ruid=1000", "ruid=4294967295"), n70(5), "70 comes before 72: line 5")
 
 # ---- Other text
-add("blank-line-between-steps", SHEET + step() + "\n" + step(), n70(17), "16 + 1")
-add("blank-line-after-sheet", SHEET + "\n" + step(), n70(12), "11 + 1")
-add("blank-line-in-step", SHEET + "call=10\na=" + Z + "\n\nb=" + Z + "\nc=" + Z + "\nattr=\n", n70(14), "13 + 1")
+add("blank-line-between-steps", SHEET + step() + "\n" + step(), n70(21), "20 + 1")
+add("blank-line-after-sheet", SHEET + "\n" + step(), n70(16), "15 + 1")
+add("blank-line-in-step", SHEET + "call=10\na=" + Z + "\n\nb=" + Z + "\nc=" + Z + "\nattr=\n", n70(18), "17 + 1")
 add("blank-line-first", "\n" + SHEET + step(), n70(1), "0 + 1")
 add("comment-first", "# burner plan\n" + SHEET, n70(1), "the format has no comments: line 1")
-add("comment-after-sheet", SHEET + "# launch\n" + step(), n70(12), "11 + 1")
-add("comment-at-end", SHEET + step() + "# done\n", n70(17), "16 + 1")
+add("comment-after-sheet", SHEET + "# launch\n" + step(), n70(16), "15 + 1")
+add("comment-at-end", SHEET + step() + "# done\n", n70(21), "20 + 1")
 add("comment-behind-value", SHEET.replace("euid=1000", "euid=1000 # roaster"), n70(2), "line 2")
-add("text-after-sheet", SHEET + "launch the burner\n", n70(12), "no step: 11 + 1")
-add("second-sheet-after-sheet", SHEET + SHEET, n70(12), "a sheet is no step: 11 + 1")
-add("sheet-after-step", SHEET + step() + SHEET, n70(17), "a sheet is no step: 16 + 1")
+add("text-after-sheet", SHEET + "launch the burner\n", n70(16), "no step: 15 + 1")
+add("second-sheet-after-sheet", SHEET + SHEET, n70(16), "a sheet is no step: 15 + 1")
+add("sheet-after-step", SHEET + step() + SHEET, n70(21), "a sheet is no step: 20 + 1")
 add("report-as-plan", rep([(0, 0)], SHEET), n70(1), "a report with a step begins with `code=`: line 1")
 add("nul-in-id", SHEET.replace("ruid=1000", "ruid=10\x0000"), n70(1), "NUL is no digit: line 1")
-add("nul-at-end", SHEET + "\0", n70(12), "a NUL after the sheet is text: 11 + 1")
-add("nul-after-step", SHEET + step() + "\0", n70(17), "a NUL after the step is text: 16 + 1")
-add("nul-before-newline", SHEET.replace("nnp=0\n", "nnp=0\0\n"), n70(11), "the text does not end at a NUL: line 11")
-add("nul-in-mask", SHEET + step(a="00000000\x000000000"), n70(13), "NUL is no hex digit: line 13")
+add("nul-at-end", SHEET + "\0", n70(16), "a NUL after the sheet is text: 15 + 1")
+add("nul-after-step", SHEET + step() + "\0", n70(21), "a NUL after the step is text: 20 + 1")
+add("nul-before-newline", SHEET.replace("nnp=0\n", "nnp=0\0\n"), n70(15), "the text does not end at a NUL: line 15")
+add("nul-in-mask", SHEET + step(a="00000000\x000000000"), n70(17), "NUL is no hex digit: line 17")
 add("nul-only", "\0", n70(1), "line 1")
 add("bom-first", b"\xef\xbb\xbf" + SHEET.encode(), n70(1), "three bytes before ruid: line 1")
 add("bytes-above-127-in-id", SHEET.encode().replace(b"suid=1000", b"suid=100\xb0", 1), n70(3),
     "0xb0 is `0` with the top bit set, and no digit: line 3")
 add("bytes-above-127-in-key", SHEET.encode().replace(b"\neuid", b"\n\xe9uid"), n70(2), "Latin-1 e acute: line 2")
 add("bytes-above-127-in-attr", (SHEET + "call=1\na=" + Z + "\nb=" + Z + "\nc=" + Z + "\nattr=").encode()
-    + b"\xff\xff\n", n70(16), "bytes are written in hex: line 16")
-add("bytes-above-127-after-sheet", SHEET.encode() + "caf\u00e9\n".encode("utf-8"), n70(12), "no step: 11 + 1")
-add("high-newline", SHEET.encode().replace(b"nnp=0\n", b"nnp=0\x8a"), n70(11),
-    "0x8a is newline with the top bit set, and no newline: line 11")
+    + b"\xff\xff\n", n70(20), "bytes are written in hex: line 20")
+add("bytes-above-127-after-sheet", SHEET.encode() + "caf\u00e9\n".encode("utf-8"), n70(16), "no step: 15 + 1")
+add("high-newline", SHEET.encode().replace(b"nnp=0\n", b"nnp=0\x8a"), n70(15),
+    "0x8a is newline with the top bit set, and no newline: line 15")
 add("nel-line-end", SHEET.encode().replace(b"ruid=1000\n", b"ruid=1000\xc2\x85"), n70(1), "U+0085 ends no line: line 1")
-add("formfeed-between-steps", SHEET + step() + "\f" + step(), n70(17), "16 + 1")
+add("formfeed-between-steps", SHEET + step() + "\f" + step(), n70(21), "20 + 1")
 add("all-256-bytes", bytes(range(256)), n70(1), "line 1")
 
 # ---- Attributes in a step
@@ -248,15 +318,15 @@ def launch(at):
 
 
 add("attr-empty-launch", launch(""), rep([(0, 0)], SHEET), "none attached, all sets empty: done, nothing changes")
-add("attr-1-digit", launch("0"), n70(16), "odd: line 16")
-add("attr-3-digits", launch("000"), n70(16), "odd: line 16")
-add("attr-39-digits", launch(NETRAW[:-1]), n70(16), "odd: line 16")
-add("attr-41-digits", launch(NETRAW + "0"), n70(16), "odd: line 16")
-add("attr-47-digits", launch("0" * 47), n70(16), "odd: line 16")
-add("attr-49-digits", launch("0" * 49), n70(16), "odd, and above 48: line 16")
-add("attr-50-digits", launch("0" * 50), n70(16), "above 48: line 16")
-add("attr-50-digits-good-start", launch(NETRAW + "0" * 10), n70(16), "above 48: line 16")
-add("attr-1000-digits", launch("0" * 1000), n70(16), "above 48: line 16")
+add("attr-1-digit", launch("0"), n70(20), "odd: line 20")
+add("attr-3-digits", launch("000"), n70(20), "odd: line 20")
+add("attr-39-digits", launch(NETRAW[:-1]), n70(20), "odd: line 20")
+add("attr-41-digits", launch(NETRAW + "0"), n70(20), "odd: line 20")
+add("attr-47-digits", launch("0" * 47), n70(20), "odd: line 20")
+add("attr-49-digits", launch("0" * 49), n70(20), "odd, and above 48: line 20")
+add("attr-50-digits", launch("0" * 50), n70(20), "above 48: line 20")
+add("attr-50-digits-good-start", launch(NETRAW + "0" * 10), n70(20), "above 48: line 20")
+add("attr-1000-digits", launch("0" * 1000), n70(20), "above 48: line 20")
 add("attr-2-digits-launch", launch("00"), rep([(60, 0)], SHEET), "well-formed text; 1 byte is no attribute: 60")
 add("attr-46-digits-launch", launch("01000002" + "0" * 38), rep([(60, 0)], SHEET), "23 bytes: 60")
 add("attr-48-digits-launch", launch("01000002" + "0" * 40), rep([(60, 0)], SHEET),
@@ -266,11 +336,11 @@ add("attr-2-digits-other-call", SHEET + step(10, attr="00"), rep([(22, 0)], SHEE
 add("attr-46-digits-other-call", SHEET + step(14, attr="0" * 46), rep([(22, 0)], SHEET), "the same: 22")
 add("attr-48-digits-other-call", SHEET + step(12, attr="0" * 48), rep([(22, 0)], SHEET), "the same: 22")
 add("attr-good-other-call", SHEET + step(10, attr=NETRAW), rep([(22, 0)], SHEET), "the same, readable or not: 22")
-add("attr-50-digits-other-call", SHEET + step(10, attr="0" * 50), n70(16), "the text is malformed whatever the call: line 16")
-add("attr-upper-case", launch("0100000200200000000000000000000000000000".replace("2000", "2A00", 1)), n70(16),
-    "hex letters are lower case: line 16")
-add("attr-space", launch("01000002 0020000000000000000000000000000"), n70(16), "a blank is no hex digit: line 16")
-add("attr-space-only", launch("  "), n70(16), "two blanks are not two digits: line 16")
+add("attr-50-digits-other-call", SHEET + step(10, attr="0" * 50), n70(20), "the text is malformed whatever the call: line 20")
+add("attr-upper-case", launch("0100000200200000000000000000000000000000".replace("2000", "2A00", 1)), n70(20),
+    "hex letters are lower case: line 20")
+add("attr-space", launch("01000002 0020000000000000000000000000000"), n70(20), "a blank is no hex digit: line 20")
+add("attr-space-only", launch("  "), n70(20), "two blanks are not two digits: line 20")
 NR = S(permitted="0000000000002000", effective="0000000000002000")
 add("attr-netraw", launch(NETRAW), rep([(0, 0)], NR), "the paper's example: I and B unchanged, P'={13} and B, bit on, so P=E={13}")
 add("attr-netraw-v1", launch("010000010020000000000000"), rep([(0, 0)], NR), "version 1, 12 bytes: the same sets")
@@ -295,39 +365,44 @@ add("attr-unreadable-nnp", S(nnp="1") + step(1, attr="ff"), rep([(0, 0)], S(nnp=
     "ignored under no-new-privs and so not read: done")
 add("attr-unreadable-bad-flags", SHEET + step(1, b="0000000000000024", attr="ff"), rep([(22, 0)], SHEET),
     "flags above 31: 22 comes before everything about the attribute")
-add("attr-unreadable-operand-c", SHEET + step(1, c="0000000000000001", attr="ff"), rep([(22, 0)], SHEET),
-    "c is unused in call 1: 22 before 60")
+add("attr-unreadable-operand-c", SHEET + step(1, c="00000000ffffffff", attr="ff"), rep([(22, 0)], SHEET),
+    "a file's group above 4294967294: 22 before 60")
+add("attr-unreadable-file-group", SHEET + step(1, c="0000000000000001", attr="ff"), rep([(60, 0)], SHEET),
+    "group 1 is a file's group, so only the attribute is wrong: 60")
 
 # ---- Call numbers
 add("call-0", SHEET + step(0), rep([(22, 0)], SHEET), "readable; unknown call: 22")
-add("call-19", SHEET + step(19), rep([(22, 0)], SHEET), "readable; unknown call: 22")
-add("call-20", SHEET + step(20), rep([(22, 0)], SHEET), "readable; unknown call: 22")
+add("call-19", SHEET + step(19), rep([(1, 0)], SHEET), "setgid 0 without SETGID; 0 is neither real nor saved group: 1")
+add("call-20", SHEET + step(20), rep([(1, 0)], SHEET), "setregid 0, 0 without SETGID; 0 is none of the groups: 1")
+add("call-21", SHEET + step(21), rep([(1, 0)], SHEET), "setresgid 0, 0, 0 without SETGID; 0 is none of the groups: 1")
+add("call-22", SHEET + step(22), rep([(0, 1000)], SHEET), "setfsgid 0 answers 0 and the old group 1000, and changes nothing")
+add("call-23", SHEET + step(23), rep([(22, 0)], SHEET), "the first number past the last call; unknown call: 22")
 add("call-99", SHEET + step(99), rep([(22, 0)], SHEET), "the greatest readable; unknown call: 22")
 add("call-99-all-given", SHEET + step(99, "f" * 16, "f" * 16, "f" * 16, "f" * 48), rep([(22, 0)], SHEET),
     "readable; unknown call: 22")
-add("call-100", SHEET + step(100), n70(12), "above 99: line 12")
-add("call-07", SHEET + step("07"), n70(12), "leading zero: line 12")
-add("call-00", SHEET + step("00"), n70(12), "leading zero: line 12")
-add("call-010", SHEET + step("010"), n70(12), "leading zero: line 12")
-add("call-minus-1", SHEET + step("-1"), n70(12), "a sign is no digit: line 12")
-add("call-plus-1", SHEET + step("+1"), n70(12), "a sign is no digit: line 12")
-add("call-space-1", SHEET + step(" 1"), n70(12), "a blank is no digit: line 12")
-add("call-1-space", SHEET + step("1 "), n70(12), "a blank is no digit: line 12")
-add("call-empty", SHEET + step(""), n70(12), "no digit: line 12")
-add("call-name", SHEET + step("execve"), n70(12), "a number is wanted: line 12")
-add("call-hex", SHEET + step("0a"), n70(12), "decimal: line 12")
-add("call-257", SHEET + step(257), n70(12), "above 99; must not wrap to 1: line 12")
-add("call-wraps-32", SHEET + step(4294967306), n70(12), "2^32 + 10: must not wrap to 10; line 12")
-add("call-wraps-64", SHEET + step(18446744073709551626), n70(12), "2^64 + 10: must not wrap to 10; line 12")
-add("call-30-digits", SHEET + step("9" * 30), n70(12), "line 12")
+add("call-100", SHEET + step(100), n70(16), "above 99: line 16")
+add("call-07", SHEET + step("07"), n70(16), "leading zero: line 16")
+add("call-00", SHEET + step("00"), n70(16), "leading zero: line 16")
+add("call-010", SHEET + step("010"), n70(16), "leading zero: line 16")
+add("call-minus-1", SHEET + step("-1"), n70(16), "a sign is no digit: line 16")
+add("call-plus-1", SHEET + step("+1"), n70(16), "a sign is no digit: line 16")
+add("call-space-1", SHEET + step(" 1"), n70(16), "a blank is no digit: line 16")
+add("call-1-space", SHEET + step("1 "), n70(16), "a blank is no digit: line 16")
+add("call-empty", SHEET + step(""), n70(16), "no digit: line 16")
+add("call-name", SHEET + step("execve"), n70(16), "a number is wanted: line 16")
+add("call-hex", SHEET + step("0a"), n70(16), "decimal: line 16")
+add("call-257", SHEET + step(257), n70(16), "above 99; must not wrap to 1: line 16")
+add("call-wraps-32", SHEET + step(4294967306), n70(16), "2^32 + 10: must not wrap to 10; line 16")
+add("call-wraps-64", SHEET + step(18446744073709551626), n70(16), "2^64 + 10: must not wrap to 10; line 16")
+add("call-30-digits", SHEET + step("9" * 30), n70(16), "line 16")
 
 # ---- Operands
-add("a-15-digits", SHEET + step(4, a="0" * 15), n70(13), "16 digits wanted: line 13")
-add("a-17-digits", SHEET + step(4, a="0" * 17), n70(13), "16 digits wanted: line 13")
-add("a-decimal", SHEET + step(4, a="17"), n70(13), "16 digits wanted: line 13")
-add("second-step-a-1-digit", SHEET + step() + "call=1\na=0\n", n70(18), "16 digits wanted: 17 + 1")
-add("b-empty", SHEET + step(4, b=""), n70(14), "16 digits wanted: line 14")
-add("c-upper-case", SHEET + step(2, c="000000000000040A"), n70(15), "lower case: line 15")
+add("a-15-digits", SHEET + step(4, a="0" * 15), n70(17), "16 digits wanted: line 17")
+add("a-17-digits", SHEET + step(4, a="0" * 17), n70(17), "16 digits wanted: line 17")
+add("a-decimal", SHEET + step(4, a="17"), n70(17), "16 digits wanted: line 17")
+add("second-step-a-1-digit", SHEET + step() + "call=1\na=0\n", n70(22), "16 digits wanted: 21 + 1")
+add("b-empty", SHEET + step(4, b=""), n70(18), "16 digits wanted: line 18")
+add("c-upper-case", SHEET + step(2, c="000000000000040A"), n70(19), "lower case: line 19")
 add("operands-all-ones", SHEET + step(10, "f" * 16, "f" * 16, "f" * 16), rep([(22, 0)], SHEET),
     "readable; nonzero unused operands: 22")
 add("unused-c", SHEET + step(4, a="0000000000000011", c="0000000000000001"), rep([(22, 0)], SHEET),
@@ -346,6 +421,76 @@ add("second-call-from-the-first",
     rep([(0, 0), (0, 0)], S(permitted=RAW, inheritable=RAW, effective=RAW)),
     "call 8 clears A; call 7 starts from there, so 13 is not in A: value 0")
 
+# ---- Group IDs in a plan: capability 6 is SETGID (mask 40); 10, 20 .. 70 are a, 14, 1e, 28, 32, 3c, 46 in hex
+LEAVE = "00000000ffffffff"
+GROUPS = S(rgid="10", egid="20", sgid="30", fsgid="40")
+add("groups-without-setgid",
+    GROUPS + step(22, a="0000000000000014") + step(20, a="0000000000000014", b="000000000000000a")
+    + step(21, a=LEAVE, b="0000000000000014", c=LEAVE) + step(19, a="000000000000000a") + step(19, a="000000000000001e")
+    + step(22, a="000000000000001e") + step(22, a=LEAVE),
+    rep([(0, 40), (0, 0), (0, 0), (0, 0), (1, 0), (0, 10), (0, 10)], S(rgid="20", egid="10", sgid="10", fsgid="10")),
+    "20 is the effective: 10/20/30/20, value 40; swapped, real given, so saved follows: 20/10/10/10; effective to the real: "
+    "20/20/10/20; setgid to the saved: 20/10/10/10; 30 is neither real nor saved: 1; setfsgid 30 changes nothing, value 10; asks, value 10")
+SETGID = dict(permitted="0000000000000040", effective="0000000000000040")
+add("groups-with-setgid",
+    S(**SETGID) + step(19) + step(20, a="0000000000000032", b=LEAVE)
+    + step(21, a=LEAVE, b="000000000000003c", c="0000000000000046") + step(22, a="00000000fffffffe"),
+    rep([(0, 0), (0, 0), (0, 0), (0, 60)], S(**dict(SETGID, rgid="50", egid="60", sgid="70", fsgid="4294967294"))),
+    "setgid 0: all four 0; setregid real 50: saved and filesystem become the effective 0; setresgid: 50/60/70/60; "
+    "setfsgid 4294967294, value 60; P and E stay")
+add("groups-with-setuid-only", S(permitted="0000000000000080", effective="0000000000000080") + step(19) + step(22),
+    rep([(1, 0), (0, 1000)], S(permitted="0000000000000080", effective="0000000000000080")),
+    "SETUID is not SETGID: 1, and a setfsgid that changes nothing")
+add("groups-from-0-by-root",
+    S(ruid="0", euid="0", suid="0", fsuid="0", rgid="0", egid="0", sgid="0", fsgid="0",
+      permitted="000001ffffffffff", effective="000001ffffffffff") + step(19, a="00000000000003e8"),
+    rep([(0, 0)], S(ruid="0", euid="0", suid="0", fsuid="0", permitted="000001ffffffffff", effective="000001ffffffffff")),
+    "all four groups 1000; a group call touches no set and no user ID")
+add("users-from-0-groups-stay",
+    S(ruid="0", euid="0", suid="0", fsuid="0", rgid="0", egid="1", sgid="2", fsgid="3",
+      permitted="000001ffffffffff", effective="000001ffffffffff") + step(15, a="00000000000003e8"),
+    rep([(0, 0)], S(rgid="0", egid="1", sgid="2", fsgid="3")), "setuid 1000: rule 1 clears P and E; the groups stay as they are")
+add("setfsgid-asks", S(fsgid="4294967294") + step(22, a=LEAVE),
+    rep([(0, 4294967294)], S(fsgid="4294967294")), "setfsgid only asks: value 00000000fffffffe")
+add("setgid-4294967295", S(**SETGID) + step(19, a=LEAVE), rep([(22, 0)], S(**SETGID)), "4294967295 stands in 20 to 22 only: 22")
+add("setgid-unused-b", SHEET + step(19, a="00000000000003e8", b="0000000000000001"), rep([(22, 0)], SHEET),
+    "readable; nonzero unused operand: 22")
+add("setregid-unused-c", SHEET + step(20, a=LEAVE, b=LEAVE, c=LEAVE), rep([(22, 0)], SHEET), "c is unused in call 20: 22")
+add("setresgid-nothing-given", GROUPS + step(21, a=LEAVE, b=LEAVE, c=LEAVE),
+    rep([(0, 0)], S(rgid="10", egid="20", sgid="30", fsgid="20")), "nothing given: the filesystem group becomes the effective")
+add("setresgid-saved-wide", S(**SETGID) + step(21, a=LEAVE, b=LEAVE, c="0000000100000000"), rep([(22, 0)], S(**SETGID)),
+    "4294967296 is above 4294967294 and leaves nothing: 22")
+add("setfsgid-attr", SHEET + step(22, a="00000000000003e8", attr=NETRAW), rep([(22, 0)], SHEET),
+    "attribute must be empty except in call 1: 22")
+add("launch-file-group", GROUPS + step(1, b="0000000000000002", c="0000000000000007"),
+    rep([(0, 0)], S(rgid="10", egid="7", sgid="7", fsgid="7")),
+    "set-group-ID in force: effective group 7, then saved and filesystem; the real stays")
+add("launch-file-group-no-bit", GROUPS + step(1, c="0000000000000007"),
+    rep([(0, 0)], S(rgid="10", egid="20", sgid="20", fsgid="20")),
+    "without the bit group 7 is not taken; saved and filesystem become the effective 20")
+add("launch-file-group-nosuid", GROUPS + step(1, b="0000000000000006", c="0000000000000007"),
+    rep([(0, 0)], S(rgid="10", egid="20", sgid="20", fsgid="20")), "the bit is ignored on a nosuid mount: as without it")
+add("launch-file-group-nnp", S(nnp="1", rgid="10", egid="20", sgid="30", fsgid="40") + step(1, b="0000000000000002", c="0000000000000007"),
+    rep([(0, 0)], S(nnp="1", rgid="10", egid="20", sgid="20", fsgid="20")), "the bit is ignored under no-new-privs: as without it")
+add("launch-file-group-no-file-caps", GROUPS + step(1, b="0000000000000012", c="0000000000000007", attr="ff"),
+    rep([(0, 0)], S(rgid="10", egid="7", sgid="7", fsgid="7")), "no_file_caps ignores the attribute alone: group 7")
+add("launch-owner-and-group", SHEET + step(1, a="00000000000003e9", b="0000000000000003", c="0000000000000007"),
+    rep([(0, 0)], S(euid="1001", suid="1001", fsuid="1001", egid="7", sgid="7", fsgid="7")),
+    "both bits in force: the owner's three user IDs and the file's three groups")
+add("launch-file-group-0", SHEET + step(1, b="0000000000000002"), rep([(0, 0)], S(egid="0", sgid="0", fsgid="0")),
+    "c 0 is group 0; a group 0 gives no capability")
+add("launch-file-group-own", S(permitted=RAW, inheritable=RAW, effective=RAW, ambient=RAW)
+    + step(1, b="0000000000000002", c="00000000000003e8"), rep([(0, 0)], S(inheritable=RAW)),
+    "the group is 1000 already; the file is privileged all the same: A empty, and so P and E")
+add("launch-file-group-4294967294", SHEET + step(1, b="0000000000000002", c="00000000fffffffe"),
+    rep([(0, 0)], S(egid="4294967294", sgid="4294967294", fsgid="4294967294")), "the greatest group")
+add("launch-file-group-4294967295", GROUPS + step(1, b="0000000000000002", c=LEAVE) + step(1, c=LEAVE), rep([(22, 0), (22, 0)], GROUPS),
+    "above 4294967294: 22, with the bit and without it; the groups stay")
+add("launch-file-group-wide", GROUPS + step(1, c="0000000100000007"), rep([(22, 0)], GROUPS),
+    "the number is 64 bits wide and is not cut to 7: 22")
+add("launch-refused-groups-stay", GROUPS + step(1, b="0000000000000002", c="0000000000000007", attr="00"), rep([(60, 0)], GROUPS),
+    "1 byte is no attribute: 60, and the groups stay")
+
 # ---- Many steps
 ROOTKW = dict(ruid="0", euid="0", suid="0", fsuid="0", permitted="000001ffffffffff", effective="000001ffffffffff")
 ROOT = S(**ROOTKW)
@@ -361,63 +506,72 @@ M256 = ROOT + "".join(many)
 add("steps-256", M256, rep(res, S(**dict(ROOTKW, bounding=Z))),
     "256 steps are allowed: each of the 41 capabilities read 1, dropped, read 0, then call 10 133 times; B ends empty")
 add("steps-255", ROOT + "".join(many[:255]), rep(res[:255], S(**dict(ROOTKW, bounding=Z))), "one fewer")
-add("steps-257", M256 + step(), n70(1292), "the paper says so: a 257th step gives 1292")
-add("steps-257-cut", M256 + "call=10\n", n70(1292), "the 257th step is refused at its first line, whole or not")
-add("steps-257-broken", M256 + "call=xx\n", n70(1292), "any text after the 256th step: 1291 + 1")
-add("steps-256-newline", M256 + "\n", n70(1292), "a blank line after the 256th step: 1291 + 1")
-add("steps-256-nul", M256 + "\0", n70(1292), "a NUL after the 256th step: 1291 + 1")
-add("steps-256-no-last-newline", M256[:-1], n70(1291), "the last attr line is not complete: 1290 + 1")
-add("steps-256-last-cut", ROOT + "".join(many[:255]) + "call=10\n", n70(1288), "1287 complete lines: 1287 + 1")
-add("steps-256-last-broken", ROOT + "".join(many[:255]) + step("010"), n70(1287), "255 steps are 1286 lines: 1286 + 1")
-add("steps-300", M256 + step() * 44, n70(1292), "the first text too much is at line 1292")
-add("steps-1000", ROOT + step() * 1000, n70(1292), "the same, 70 kB")
-add("steps-257-early-fault", ROOT + step() * 2 + step().replace("b=", "B=") + step() * 254, n70(24),
-    "the first fault counts: step 3 is lines 22 to 26, its b line is 24")
-add("steps-257-sheet-fault", S(nnp="2") + step() * 257, n70(11), "the first fault counts: line 11")
+add("steps-257", M256 + step(), n70(1296), "the paper says so: a 257th step gives 1296")
+add("steps-257-cut", M256 + "call=10\n", n70(1296), "the 257th step is refused at its first line, whole or not")
+add("steps-257-broken", M256 + "call=xx\n", n70(1296), "any text after the 256th step: 1295 + 1")
+add("steps-256-newline", M256 + "\n", n70(1296), "a blank line after the 256th step: 1295 + 1")
+add("steps-256-nul", M256 + "\0", n70(1296), "a NUL after the 256th step: 1295 + 1")
+add("steps-256-no-last-newline", M256[:-1], n70(1295), "the last attr line is not complete: 1294 + 1")
+add("steps-256-last-cut", ROOT + "".join(many[:255]) + "call=10\n", n70(1292), "1291 complete lines: 1291 + 1")
+add("steps-256-last-broken", ROOT + "".join(many[:255]) + step("010"), n70(1291), "a sheet and 255 steps are 1290 lines: 1290 + 1")
+add("steps-300", M256 + step() * 44, n70(1296), "the first text too much is at line 1296")
+add("steps-1000", ROOT + step() * 1000, n70(1296), "the same, 70 kB")
+add("steps-257-early-fault", ROOT + step() * 2 + step().replace("b=", "B=") + step() * 254, n70(28),
+    "the first fault counts: step 3 is lines 26 to 30, its b line is 28")
+add("steps-257-sheet-fault", S(nnp="2") + step() * 257, n70(15), "the first fault counts: line 15")
 
-IDS10 = dict(ruid="4294967294", euid="4294967294", suid="4294967294", fsuid="4294967294")
+IDS10 = dict(ruid="4294967294", euid="4294967294", suid="4294967294", fsuid="4294967294",
+             rgid="4294967294", egid="4294967294", sgid="4294967294", fsgid="4294967294")
 FULL = "000001ffffffffff"
 LKW = dict(IDS10, permitted=FULL, inheritable=FULL, effective=FULL, bounding=FULL, ambient=FULL,
            securebits="ff", nnp="1")
 LONGSTEPS = "".join(step(10 + i % 90, "f" * 16, "f" * 16, "f" * 16, "f" * 48) for i in range(256))
 LONGEST = S(**LKW) + LONGSTEPS
-assert len(LONGEST) == 30683
+assert len(LONGEST) == 30748
+assert len(rep([(22, 0)] * 256, S(**LKW))) == 8220
 add("longest", LONGEST, rep([(22, 0)] * 256, S(**LKW)),
-    "30,683 bytes: calls 10 to 99 with an attribute and all-ones operands, every one 22; nothing changes")
-add("longest-plus-newline", LONGEST + "\n", n70(1292), "30,684 bytes: 1291 + 1")
-add("longest-plus-c", LONGEST + "c", n70(1292), "the start of a 257th step: 1291 + 1")
-add("longest-no-last-newline", LONGEST[:-1], n70(1291), "30,682 bytes, last line not complete: 1290 + 1")
+    "30,748 bytes: calls 10 to 99 with an attribute and all-ones operands, every one 22; nothing changes; the report has 8,220 bytes")
+add("longest-plus-newline", LONGEST + "\n", n70(1296), "30,749 bytes: 1295 + 1")
+add("longest-plus-c", LONGEST + "c", n70(1296), "the start of a 257th step: 1295 + 1")
+add("longest-no-last-newline", LONGEST[:-1], n70(1295), "30,747 bytes, last line not complete: 1294 + 1")
 add("longest-id-11-digits", LONGEST.replace("ruid=4294967294", "ruid=14294967294"), n70(1),
-    "30,684 bytes, one digit more in line 1")
+    "30,749 bytes, one digit more in line 1")
 add("longest-call-3-digits", S(**LKW) + LONGSTEPS[:255 * 119] + step(100, "f" * 16, "f" * 16, "f" * 16, "f" * 48),
-    n70(1287), "30,684 bytes, one digit more in the last call: 1286 + 1")
-add("longest-attr-49", LONGEST[:-1] + "f\n", n70(1291), "30,684 bytes, one digit more in the last attr: 1290 + 1")
+    n70(1291), "30,749 bytes, one digit more in the last call: 1290 + 1")
+add("longest-attr-49", LONGEST[:-1] + "f\n", n70(1295), "30,749 bytes, one digit more in the last attr: 1294 + 1")
 add("longest-last-launch", S(**LKW) + LONGSTEPS[:255 * 119] + step(1, attr="f" * 48),
     rep([(22, 0)] * 255 + [(0, 0)],
         S(**dict(LKW, securebits="ef"))),
-    "30,682 bytes; the last step is call 1 under no-new-privs: its 24-byte attribute is ignored; "
-    "A'=A=full, P'=E'=full; IDs stay; KEEP_CAPS (16) is cleared though locked: ff becomes ef")
+    "30,747 bytes; the last step is call 1 under no-new-privs: its 24-byte attribute is ignored; "
+    "A'=A=full, P'=E'=full; IDs and groups stay; KEEP_CAPS (16) is cleared though locked: ff becomes ef")
 add("long-line-100k", "ruid=" + "1" * 100000 + "\n" + "".join(LS[1:]), n70(1), "line 1, however long")
 add("long-line-no-newline", "x" * 100000, n70(1), "line 1, however long")
 add("garbage-100k-after-3-lines", "".join(LS[:3]) + "x" * 100000 + "\n", n70(4), "3 + 1")
 add("newlines-100k", "\n" * 100000, n70(1), "line 1")
-add("newlines-100k-after-256-steps", M256 + "\n" * 100000, n70(1292), "1291 + 1")
+add("newlines-100k-after-256-steps", M256 + "\n" * 100000, n70(1296), "1295 + 1")
 
 # ---- 70 before 72
 BADKW = dict(permitted="0000000000000400", effective="0000000000020400")
 add("invalid-zero-steps", S(**BADKW), N72, "E not within P: 72, line 0")
 add("invalid-three-steps", S(**BADKW) + step(10) + step(1) + step(4, a="0000000000000011"), N72,
     "three correct steps: 72, and no step's result is written")
-add("invalid-and-fault-in-step", S(**BADKW) + step(10) + "call=10\na=1\n", n70(18), "70 comes first: 17 + 1")
-add("invalid-and-fault-in-sheet", S(**dict(BADKW, nnp="2")), n70(11), "70 comes first: line 11, although line 7 makes it invalid")
-add("invalid-and-no-last-newline", S(**BADKW)[:-1], n70(11), "70 comes first: line 11")
-add("invalid-and-extra-newline", S(**BADKW) + "\n", n70(12), "70 comes first: line 12")
-add("invalid-id-and-cut-step", S(ruid="4294967295") + "call=1\n", n70(13), "70 comes first: line 13")
-add("invalid-id-and-257-steps", S(ruid="4294967295") + step() * 257, n70(1292), "70 comes first: line 1292")
+add("invalid-and-fault-in-step", S(**BADKW) + step(10) + "call=10\na=1\n", n70(22), "70 comes first: 21 + 1")
+add("invalid-and-fault-in-sheet", S(**dict(BADKW, nnp="2")), n70(15), "70 comes first: line 15, although line 11 makes it invalid")
+add("invalid-and-no-last-newline", S(**BADKW)[:-1], n70(15), "70 comes first: line 15")
+add("invalid-and-extra-newline", S(**BADKW) + "\n", n70(16), "70 comes first: line 16")
+add("invalid-id-and-cut-step", S(ruid="4294967295") + "call=1\n", n70(17), "70 comes first: line 17")
+add("invalid-id-and-257-steps", S(ruid="4294967295") + step() * 257, n70(1296), "70 comes first: line 1296")
 add("invalid-id-and-256-steps", S(ruid="4294967295") + step() * 256, N72, "256 correct steps: 72")
+add("invalid-group-and-cut-step", S(rgid="4294967295") + "call=1\n", n70(17), "70 comes first: line 17")
+add("invalid-group-and-fault-in-sheet", S(egid="4294967295", sgid="4294967296"), n70(7),
+    "70 comes first: line 7, although line 6 makes it invalid")
+add("invalid-group-and-256-steps", S(sgid="4294967295") + step() * 256, N72, "256 correct steps: 72")
+add("invalid-group-and-257-steps", S(sgid="4294967295") + step() * 257, n70(1296), "70 comes first: line 1296")
 add("invalid-twice", S(ruid="4294967295", bounding="f" * 16), N72, "two reasons, one answer: 72, line 0")
 add("longest-invalid", LONGEST.replace("fsuid=4294967294", "fsuid=4294967295"), N72,
-    "30,683 bytes with fsuid 4294967295: 72, line 0")
+    "30,748 bytes with fsuid 4294967295: 72, line 0")
+add("longest-invalid-group", LONGEST.replace("fsgid=4294967294", "fsgid=4294967295"), N72,
+    "30,748 bytes with fsgid 4294967295: 72, line 0")
 
 
 def main():

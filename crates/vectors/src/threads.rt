@@ -11,24 +11,19 @@ struct Start {
     end: usize,
 }
 
-// The four user IDs (decimal), the five sets (hex), securebits (hex) and no-new-privs.
+// The four user IDs and the four group IDs (decimal), the five sets (hex), securebits (hex) and no-new-privs.
 fn start_of(row: &[u8]) -> Start {
-    let real = fields::decimal(row, 0);
-    let effective = fields::decimal(row, real.end);
-    let saved = fields::decimal(row, effective.end);
-    let filesystem = fields::decimal(row, saved.end);
-    let uids = Ids {
-        real: real.value,
-        effective: effective.value,
-        saved: saved.value,
-        filesystem: filesystem.value,
-    };
-    let held = sets_of(row, filesystem.end);
+    let users = ids_of(row, 0);
+    let groups = ids_of(row, users.end);
+    let held = sets_of(row, groups.end);
+    let uids = users.given;
+    let gids = groups.given;
     let sets = held.given;
     let securebits = fields::hex(row, held.end);
     let nnp = fields::hex(row, securebits.end);
     let given = Credentials {
         uids,
+        gids,
         sets,
         securebits: securebits.value,
         nnp: nnp.value == 1,
@@ -36,6 +31,29 @@ fn start_of(row: &[u8]) -> Start {
     Start {
         given,
         end: nnp.end,
+    }
+}
+
+// Four IDs of a row, and where they end.
+struct Four {
+    given: Ids,
+    end: usize,
+}
+
+fn ids_of(row: &[u8], from: usize) -> Four {
+    let real = fields::decimal(row, from);
+    let effective = fields::decimal(row, real.end);
+    let saved = fields::decimal(row, effective.end);
+    let filesystem = fields::decimal(row, saved.end);
+    let given = Ids {
+        real: real.value,
+        effective: effective.value,
+        saved: saved.value,
+        filesystem: filesystem.value,
+    };
+    Four {
+        given,
+        end: filesystem.end,
     }
 }
 
@@ -95,10 +113,8 @@ pub(crate) fn show_call(row: &[u8]) {
 }
 
 fn show_credentials(given: Credentials) {
-    output::decimal(b" uids=", given.uids.real);
-    output::decimal(b",", given.uids.effective);
-    output::decimal(b",", given.uids.saved);
-    output::decimal(b",", given.uids.filesystem);
+    show_ids(b" uids=", given.uids);
+    show_ids(b" gids=", given.gids);
     output::hex(b" sets=", given.sets.permitted, 1);
     output::hex(b",", given.sets.inheritable, 1);
     output::hex(b",", given.sets.effective, 1);
@@ -106,4 +122,11 @@ fn show_credentials(given: Credentials) {
     output::hex(b",", given.sets.ambient, 1);
     output::hex(b" securebits=", given.securebits, 1);
     output::flag(b" nnp=", given.nnp);
+}
+
+fn show_ids(key: &[u8], ids: Ids) {
+    output::decimal(key, ids.real);
+    output::decimal(b",", ids.effective);
+    output::decimal(b",", ids.saved);
+    output::decimal(b",", ids.filesystem);
 }
