@@ -61,12 +61,12 @@ enum {
 enum {
     /* The most bytes that a plan has. A longer text is refused, and its first URREZKALU_LONGEST_PLAN + 1 bytes decide the line; so
      * nobody needs to read or pass more than those. */
-    URREZKALU_LONGEST_PLAN = 30683,
+    URREZKALU_LONGEST_PLAN = 30748,
     /* The most bytes that a report has: a buffer of this length is never too short. */
-    URREZKALU_LONGEST_REPORT = 8155,
+    URREZKALU_LONGEST_REPORT = 8220,
     /* The most bytes that a sheet has: a buffer of this length is never too short. Of a longer text, here too, the first
      * URREZKALU_LONGEST_SHEET + 1 bytes decide the line. */
-    URREZKALU_LONGEST_SHEET = 219,
+    URREZKALU_LONGEST_SHEET = 284,
     /* The bytes of every attribute that is written. */
     URREZKALU_ATTRIBUTE_LENGTH = 20
 };
@@ -77,14 +77,18 @@ enum {
     URREZKALU_EUID = 1,         /* effective, */
     URREZKALU_SUID = 2,         /* saved, */
     URREZKALU_FSUID = 3,        /* filesystem. */
-    URREZKALU_PERMITTED = 4,    /* The five capability sets. */
-    URREZKALU_INHERITABLE = 5,
-    URREZKALU_EFFECTIVE = 6,
-    URREZKALU_BOUNDING = 7,
-    URREZKALU_AMBIENT = 8,
-    URREZKALU_SECUREBITS = 9,
-    URREZKALU_NNP = 10,         /* No-new-privs, 0 or 1. */
-    URREZKALU_SHEET_VALUES = 11 /* How many they are. */
+    URREZKALU_RGID = 4,         /* The group IDs: real, */
+    URREZKALU_EGID = 5,         /* effective, */
+    URREZKALU_SGID = 6,         /* saved, */
+    URREZKALU_FSGID = 7,        /* filesystem. */
+    URREZKALU_PERMITTED = 8,    /* The five capability sets. */
+    URREZKALU_INHERITABLE = 9,
+    URREZKALU_EFFECTIVE = 10,
+    URREZKALU_BOUNDING = 11,
+    URREZKALU_AMBIENT = 12,
+    URREZKALU_SECUREBITS = 13,
+    URREZKALU_NNP = 14,         /* No-new-privs, 0 or 1. */
+    URREZKALU_SHEET_VALUES = 15 /* How many they are. */
 };
 
 /* The places of a file's values. */
@@ -104,15 +108,15 @@ uint64_t urrezkalu_run_plan(const uint8_t *plan, size_t plan_length, uint8_t *re
 
 /* Reads a sheet into the first URREZKALU_SHEET_VALUES of the `values_count` values, and URREZKALU_SHEET_VALUES is the length that comes back.
  *
- * Refusals, in this order: URREZKALU_MALFORMED, text past the sheet's eleven lines being a fault at line 12; URREZKALU_INVALID;
+ * Refusals, in this order: URREZKALU_MALFORMED, text past the sheet's fifteen lines being a fault at line 16; URREZKALU_INVALID;
  * URREZKALU_NO_ROOM, for fewer than URREZKALU_SHEET_VALUES values. */
 uint64_t urrezkalu_read_sheet(const uint8_t *text, size_t text_length, uint64_t *values, size_t values_count);
 
 /* Writes the sheet of the values at the front of the buffer `sheet`, which has room for `sheet_length` bytes.
  *
- * Refusals, in this order: URREZKALU_INVALID; URREZKALU_NO_ROOM. Invalid are values that are not exactly URREZKALU_SHEET_VALUES; a user ID above
- * 4294967294; a set with a bit above 40; an effective set that is not within the permitted one; an ambient set that is not within both the
- * permitted and the inheritable one; securebits above 255; a no-new-privs that is neither 0 nor 1. */
+ * Refusals, in this order: URREZKALU_INVALID; URREZKALU_NO_ROOM. Invalid are values that are not exactly URREZKALU_SHEET_VALUES; a user ID or a
+ * group ID above 4294967294; a set with a bit above 40; an effective set that is not within the permitted one; an ambient set that is not within
+ * both the permitted and the inheritable one; securebits above 255; a no-new-privs that is neither 0 nor 1. */
 uint64_t urrezkalu_write_sheet(const uint64_t *values, size_t values_count, uint8_t *sheet, size_t sheet_length);
 
 /* Reads an attribute of version 1 or 2 into the first URREZKALU_FILE_VALUES of the `values_count` values, and URREZKALU_FILE_VALUES is the
@@ -134,7 +138,7 @@ static inline uint32_t urrezkalu_code(uint64_t number)
     return (uint32_t)(number >> 32);
 }
 
-/* The first line at fault, which is one more than the complete correct lines before it, for URREZKALU_MALFORMED: 1 to 1292 of a plan, 1 to 12
+/* The first line at fault, which is one more than the complete correct lines before it, for URREZKALU_MALFORMED: 1 to 1296 of a plan, 1 to 16
  * of a sheet. 0 for the other codes. */
 static inline uint32_t urrezkalu_line(uint64_t number)
 {

@@ -52,34 +52,36 @@ pub fn run_plan(plan: &[u8], report: &mut [u8]) -> u64 {
     unsafe { c::urrezkalu_run_plan(plan.as_ptr(), plan.len(), report.as_mut_ptr(), report.len()) }
 }
 
-/// `urrezkalu_read_sheet`: 70, 72, 28 where there are fewer than eleven values, or 0 and 11. See [`crate::read_sheet`].
+/// `urrezkalu_read_sheet`: 70, 72, 28 where there are fewer than fifteen values, or 0 and 15. See [`crate::read_sheet`].
 ///
 /// ```
 /// let sheet = b"ruid=1000\neuid=1001\nsuid=1002\nfsuid=1003\n\
+///     rgid=1004\negid=1005\nsgid=1006\nfsgid=1007\n\
 ///     permitted=000000000000000f\ninheritable=0000000000000006\neffective=0000000000000003\n\
 ///     bounding=000001ffffffffff\nambient=0000000000000002\nsecurebits=2f\nnnp=1\n";
-/// let mut values = [99; 12];
-/// assert_eq!(urrezkalu::interface::read_sheet(sheet, &mut values), 11);
-/// assert_eq!(values, [1000, 1001, 1002, 1003, 0xf, 0x6, 0x3, 0x1ff_ffff_ffff, 0x2, 0x2f, 1, 99]);
+/// let mut values = [99; 16];
+/// assert_eq!(urrezkalu::interface::read_sheet(sheet, &mut values), 15);
+/// assert_eq!(values[..8], [1000, 1001, 1002, 1003, 1004, 1005, 1006, 1007]);
+/// assert_eq!(values[8..], [0xf, 0x6, 0x3, 0x1ff_ffff_ffff, 0x2, 0x2f, 1, 99]);
 ///
-/// assert_eq!(urrezkalu::interface::read_sheet(sheet, &mut [0; 10]), 28 << 32);
+/// assert_eq!(urrezkalu::interface::read_sheet(sheet, &mut [0; 14]), 28 << 32);
 /// ```
 #[must_use]
 pub fn read_sheet(text: &[u8], values: &mut [u64]) -> u64 {
     unsafe { c::urrezkalu_read_sheet(text.as_ptr(), text.len(), values.as_mut_ptr(), values.len()) }
 }
 
-/// `urrezkalu_write_sheet`: 72, also where there are not exactly eleven values or the last is neither 0 nor 1; 28, or 0 and the sheet's length.
+/// `urrezkalu_write_sheet`: 72, also where there are not exactly fifteen values or the last is neither 0 nor 1; 28, or 0 and the sheet's length.
 /// See [`crate::write_sheet`].
 ///
 /// ```
-/// let mut sheet = [0; 219];
-/// assert_eq!(urrezkalu::interface::write_sheet(&[0, 0, 0, 0, 0, 0, 0, 0, 0, 0, 1], &mut sheet), 183);
+/// let mut sheet = [0; 284];
+/// assert_eq!(urrezkalu::interface::write_sheet(&[0, 0, 0, 0, 0, 0, 0, 0, 0, 0, 0, 0, 0, 0, 1], &mut sheet), 212);
 /// assert!(sheet.starts_with(b"ruid=0\neuid=0\n"));
-/// assert!(sheet[..183].ends_with(b"\nsecurebits=00\nnnp=1\n"));
+/// assert!(sheet[..212].ends_with(b"\nsecurebits=00\nnnp=1\n"));
 ///
-/// assert_eq!(urrezkalu::interface::write_sheet(&[0; 12], &mut sheet), 72 << 32);
-/// assert_eq!(urrezkalu::interface::write_sheet(&[0, 0, 0, 0, 0, 0, 0, 0, 0, 0, 2], &mut sheet), 72 << 32);
+/// assert_eq!(urrezkalu::interface::write_sheet(&[0; 16], &mut sheet), 72 << 32);
+/// assert_eq!(urrezkalu::interface::write_sheet(&[0, 0, 0, 0, 0, 0, 0, 0, 0, 0, 0, 0, 0, 0, 2], &mut sheet), 72 << 32);
 /// ```
 #[must_use]
 pub fn write_sheet(values: &[u64], sheet: &mut [u8]) -> u64 {

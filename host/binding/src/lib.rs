@@ -12,6 +12,7 @@
 //! use urrezkalu::{run_plan, Outcome, LONGEST_REPORT};
 //!
 //! let plan = b"ruid=1000\neuid=1000\nsuid=1000\nfsuid=1000\n\
+//!     rgid=1000\negid=1000\nsgid=1000\nfsgid=1000\n\
 //!     permitted=0000000000002000\ninheritable=0000000000002000\neffective=0000000000002000\n\
 //!     bounding=000001ffffffffff\nambient=0000000000000000\nsecurebits=00\nnnp=0\n\
 //!     call=1\na=0000000000000000\nb=0000000000000000\nc=0000000000000000\nattr=\n";

@@ -6,16 +6,16 @@ use crate::interface;
 use crate::number::{apart, no_such_code, DONE, INVALID, MALFORMED, NO_ROOM};
 
 /// How many values a sheet has, one to a line.
-pub const SHEET_VALUES: usize = 11;
+pub const SHEET_VALUES: usize = 15;
 
 /// The most bytes that a sheet has: a buffer of this length is never too short. A longer text is refused, and its first `LONGEST_SHEET + 1` bytes
 /// decide the line.
-pub const LONGEST_SHEET: usize = 219;
+pub const LONGEST_SHEET: usize = 284;
 
-/// What a thread holds: the eleven values of a sheet, in the order of its lines. In a set, bit n is capability n.
+/// What a thread holds: the fifteen values of a sheet, in the order of its lines. In a set, bit n is capability n.
 ///
-/// Credentials are valid if no ID is above 4294967294, no set has a bit above 40, `effective` is within `permitted`, `ambient` is within `permitted`
-/// and within `inheritable`, and `securebits` is at most 255.
+/// Credentials are valid if no user ID and no group ID is above 4294967294, no set has a bit above 40, `effective` is within `permitted`, `ambient`
+/// is within `permitted` and within `inheritable`, and `securebits` is at most 255.
 #[derive(Clone, Copy, Debug, PartialEq, Eq)]
 pub struct Credentials {
     /// The real user ID.
@@ -26,6 +26,14 @@ pub struct Credentials {
     pub suid: u64,
     /// The filesystem user ID.
     pub fsuid: u64,
+    /// The real group ID.
+    pub rgid: u64,
+    /// The effective group ID.
+    pub egid: u64,
+    /// The saved group ID.
+    pub sgid: u64,
+    /// The filesystem group ID.
+    pub fsgid: u64,
     /// The permitted set.
     pub permitted: u64,
     /// The inheritable set.
@@ -44,9 +52,25 @@ pub struct Credentials {
 
 impl Credentials {
     fn from_values(values: [u64; SHEET_VALUES]) -> Credentials {
-        let [ruid, euid, suid, fsuid, permitted, inheritable, effective, bounding, ambient, securebits, nnp] = values;
-        let nnp = nnp != 0;
-        Credentials { ruid, euid, suid, fsuid, permitted, inheritable, effective, bounding, ambient, securebits, nnp }
+        let [ruid, euid, suid, fsuid, rgid, egid, sgid, fsgid, sets_and_flags @ ..] = values;
+        let [permitted, inheritable, effective, bounding, ambient, securebits, nnp] = sets_and_flags;
+        Credentials {
+            ruid,
+            euid,
+            suid,
+            fsuid,
+            rgid,
+            egid,
+            sgid,
+            fsgid,
+            permitted,
+            inheritable,
+            effective,
+            bounding,
+            ambient,
+            securebits,
+            nnp: nnp != 0,
+        }
     }
 
     fn values(&self) -> [u64; SHEET_VALUES] {
@@ -55,6 +79,10 @@ impl Credentials {
             self.euid,
             self.suid,
             self.fsuid,
+            self.rgid,
+            self.egid,
+            self.sgid,
+            self.fsgid,
             self.permitted,
             self.inheritable,
             self.effective,
@@ -85,7 +113,7 @@ impl SheetReading {
     /// The code of this answer: 0 for a sheet, 70 for a malformed text, 72 for credentials that are not valid.
     ///
     /// ```
-    /// assert_eq!(urrezkalu::SheetReading::Malformed { line: 12 }.code(), 70);
+    /// assert_eq!(urrezkalu::SheetReading::Malformed { line: 16 }.code(), 70);
     /// ```
     #[must_use]
     pub const fn code(self) -> u32 {
@@ -100,7 +128,7 @@ impl SheetReading {
 /// In words, as after a file's name in a message.
 ///
 /// ```
-/// assert_eq!(urrezkalu::SheetReading::Malformed { line: 12 }.to_string(), "malformed at line 12");
+/// assert_eq!(urrezkalu::SheetReading::Malformed { line: 16 }.to_string(), "malformed at line 16");
 /// ```
 impl fmt::Display for SheetReading {
     fn fmt(&self, f: &mut fmt::Formatter<'_>) -> fmt::Result {
@@ -112,16 +140,18 @@ impl fmt::Display for SheetReading {
     }
 }
 
-/// Reads `text` as a sheet. Text past the sheet is a fault, at line 12; what is malformed and not valid is malformed.
+/// Reads `text` as a sheet. Text past the sheet is a fault, at line 16; what is malformed and not valid is malformed.
 ///
 /// ```
 /// use urrezkalu::{read_sheet, SheetReading};
 ///
 /// let sheet = "ruid=1000\neuid=1000\nsuid=1000\nfsuid=1000\n\
+///     rgid=1000\negid=107\nsgid=107\nfsgid=107\n\
 ///     permitted=0000000000002000\ninheritable=0000000000002000\neffective=0000000000002000\n\
 ///     bounding=000001ffffffffff\nambient=0000000000000000\nsecurebits=00\nnnp=0\n";
 /// let SheetReading::Sheet(credentials) = read_sheet(sheet.as_bytes()) else { panic!("the sheet is refused") };
 /// assert_eq!(credentials.fsuid, 1000);
+/// assert_eq!(credentials.egid, 107);
 /// assert_eq!(credentials.effective, 1 << 13);
 /// assert!(!credentials.nnp);
 ///
@@ -130,7 +160,7 @@ impl fmt::Display for SheetReading {
 /// assert_eq!(read_sheet(invalid.as_bytes()), SheetReading::Invalid);
 ///
 /// let longer = [sheet, "\n"].concat();
-/// assert_eq!(read_sheet(longer.as_bytes()), SheetReading::Malformed { line: 12 });
+/// assert_eq!(read_sheet(longer.as_bytes()), SheetReading::Malformed { line: 16 });
 /// ```
 pub fn read_sheet(text: &[u8]) -> SheetReading {
     let mut values = [0; SHEET_VALUES];
@@ -205,6 +235,10 @@ impl fmt::Display for SheetWriting {
 ///     euid: 1000,
 ///     suid: 1000,
 ///     fsuid: 1000,
+///     rgid: 1000,
+///     egid: 107,
+///     sgid: 107,
+///     fsgid: 107,
 ///     permitted: net_raw,
 ///     inheritable: 0,
 ///     effective: net_raw,
@@ -214,10 +248,11 @@ impl fmt::Display for SheetWriting {
 ///     nnp: true,
 /// };
 /// let mut sheet = [0; LONGEST_SHEET];
-/// assert_eq!(write_sheet(&printer, &mut sheet), SheetWriting::Written { length: 195 });
+/// assert_eq!(write_sheet(&printer, &mut sheet), SheetWriting::Written { length: 233 });
 /// assert_eq!(
-///     std::str::from_utf8(&sheet[..195]).unwrap(),
+///     std::str::from_utf8(&sheet[..233]).unwrap(),
 ///     "ruid=1000\neuid=1000\nsuid=1000\nfsuid=1000\n\
+///     rgid=1000\negid=107\nsgid=107\nfsgid=107\n\
 ///     permitted=0000000000002000\ninheritable=0000000000000000\neffective=0000000000002000\n\
 ///     bounding=000001ffffffffff\nambient=0000000000000000\nsecurebits=00\nnnp=1\n"
 /// );
@@ -243,19 +278,24 @@ fn writing(number: u64) -> SheetWriting {
 mod tests {
     use super::{reading, writing, Credentials, SheetReading, SheetWriting, LONGEST_SHEET, SHEET_VALUES};
 
-    const VALUES: [u64; SHEET_VALUES] = [1, 2, 3, 4, 5, 6, 7, 8, 9, 10, 1];
+    // All different, so that no two places can be exchanged unseen.
+    const VALUES: [u64; SHEET_VALUES] = [2, 3, 4, 5, 6, 7, 8, 9, 10, 11, 12, 13, 14, 15, 1];
 
     const CREDENTIALS: Credentials = Credentials {
-        ruid: 1,
-        euid: 2,
-        suid: 3,
-        fsuid: 4,
-        permitted: 5,
-        inheritable: 6,
-        effective: 7,
-        bounding: 8,
-        ambient: 9,
-        securebits: 10,
+        ruid: 2,
+        euid: 3,
+        suid: 4,
+        fsuid: 5,
+        rgid: 6,
+        egid: 7,
+        sgid: 8,
+        fsgid: 9,
+        permitted: 10,
+        inheritable: 11,
+        effective: 12,
+        bounding: 13,
+        ambient: 14,
+        securebits: 15,
         nnp: true,
     };
 
@@ -264,7 +304,7 @@ mod tests {
         assert_eq!(Credentials::from_values(VALUES), CREDENTIALS);
         assert_eq!(CREDENTIALS.values(), VALUES);
         let mut values = VALUES;
-        values[10] = 0;
+        values[14] = 0;
         let credentials = Credentials { nnp: false, ..CREDENTIALS };
         assert_eq!(Credentials::from_values(values), credentials);
         assert_eq!(credentials.values(), values);
@@ -273,22 +313,22 @@ mod tests {
     // The paper's numbers, multiplied out: code times 4294967296 plus line or length.
     #[test]
     fn every_code_of_a_reading_is_taken_apart() {
-        assert_eq!(reading(11, VALUES), SheetReading::Sheet(CREDENTIALS));
+        assert_eq!(reading(15, VALUES), SheetReading::Sheet(CREDENTIALS));
         assert_eq!(reading(300_647_710_721, VALUES), SheetReading::Malformed { line: 1 });
-        assert_eq!(reading(300_647_710_732, VALUES), SheetReading::Malformed { line: 12 });
+        assert_eq!(reading(300_647_710_736, VALUES), SheetReading::Malformed { line: 16 });
         assert_eq!(reading(304_942_678_015, VALUES), SheetReading::Malformed { line: 4_294_967_295 });
         assert_eq!(reading(309_237_645_312, VALUES), SheetReading::Invalid);
     }
 
     #[test]
     fn every_code_of_a_writing_is_taken_apart() {
-        assert_eq!(writing(183), SheetWriting::Written { length: 183 });
-        assert_eq!(writing(219), SheetWriting::Written { length: LONGEST_SHEET });
+        assert_eq!(writing(212), SheetWriting::Written { length: 212 });
+        assert_eq!(writing(284), SheetWriting::Written { length: LONGEST_SHEET });
         assert_eq!(writing(309_237_645_312), SheetWriting::Invalid);
         assert_eq!(writing(120_259_084_288), SheetWriting::NoRoom);
     }
 
-    // Eleven values are lent, so that there always is room.
+    // Fifteen values are lent, so that there always is room.
     #[test]
     #[should_panic(expected = "no code 28")]
     fn a_reading_has_room() {
@@ -306,7 +346,7 @@ mod tests {
         assert_eq!(SheetReading::Sheet(CREDENTIALS).code(), 0);
         assert_eq!(SheetReading::Malformed { line: 1 }.code(), 70);
         assert_eq!(SheetReading::Invalid.code(), 72);
-        assert_eq!(SheetWriting::Written { length: 183 }.code(), 0);
+        assert_eq!(SheetWriting::Written { length: 212 }.code(), 0);
         assert_eq!(SheetWriting::Invalid.code(), 72);
         assert_eq!(SheetWriting::NoRoom.code(), 28);
     }
