@@ -29,6 +29,7 @@
 #![deny(missing_docs)]
 
 mod attribute;
+mod credentials;
 pub mod interface;
 mod number;
 mod plan;
@@ -38,5 +39,6 @@ pub use attribute::{
     read_attribute, write_attribute, AttributeReading, AttributeWriting, FileCapabilities, ATTRIBUTE_LENGTH,
     FILE_VALUES,
 };
+pub use credentials::{Credentials, SHEET_VALUES};
 pub use plan::{run_plan, Outcome, LONGEST_PLAN, LONGEST_REPORT};
-pub use sheet::{read_sheet, write_sheet, Credentials, SheetReading, SheetWriting, LONGEST_SHEET, SHEET_VALUES};
+pub use sheet::{read_sheet, write_sheet, SheetReading, SheetWriting, LONGEST_SHEET};

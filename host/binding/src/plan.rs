@@ -76,6 +76,24 @@ impl fmt::Display for Outcome {
 /// assert_eq!(run_plan(b"ruid=0\neuid=01\n", &mut []), Outcome::Malformed { line: 2 });
 /// ```
 ///
+/// A report ends with the sheet of what the thread then holds. Here it tells which groups a label printer's program ends in that is set-group-ID,
+/// its file's group being 107:
+///
+/// ```
+/// use urrezkalu::{read_sheet, run_plan, Outcome, SheetReading, LONGEST_REPORT};
+///
+/// let plan = b"ruid=1000\neuid=1000\nsuid=1000\nfsuid=1000\nrgid=1000\negid=1000\nsgid=1000\nfsgid=1000\n\
+///     permitted=0000000000000000\ninheritable=0000000000000000\neffective=0000000000000000\n\
+///     bounding=000001ffffffffff\nambient=0000000000000000\nsecurebits=00\nnnp=0\n\
+///     call=1\na=0000000000000000\nb=0000000000000002\nc=000000000000006b\nattr=\n";
+/// let mut report = [0; LONGEST_REPORT];
+/// let Outcome::Report { length } = run_plan(plan, &mut report) else { panic!("the plan is refused") };
+///
+/// let results = "code=0\nvalue=0000000000000000\n".len();
+/// let SheetReading::Sheet(after) = read_sheet(&report[results..length]) else { panic!("a report ends with a sheet") };
+/// assert_eq!([after.rgid, after.egid, after.sgid, after.fsgid], [1000, 107, 107, 107]);
+/// ```
+///
 /// The two buffers cannot overlap, which the library asks for and C cannot promise:
 ///
 /// ```compile_fail,E0502

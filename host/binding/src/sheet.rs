@@ -2,97 +2,13 @@
 
 use core::fmt;
 
+use crate::credentials::{Credentials, SHEET_VALUES};
 use crate::interface;
 use crate::number::{apart, no_such_code, DONE, INVALID, MALFORMED, NO_ROOM};
-
-/// How many values a sheet has, one to a line.
-pub const SHEET_VALUES: usize = 15;
 
 /// The most bytes that a sheet has: a buffer of this length is never too short. A longer text is refused, and its first `LONGEST_SHEET + 1` bytes
 /// decide the line.
 pub const LONGEST_SHEET: usize = 284;
-
-/// What a thread holds: the fifteen values of a sheet, in the order of its lines. In a set, bit n is capability n.
-///
-/// Credentials are valid if no user ID and no group ID is above 4294967294, no set has a bit above 40, `effective` is within `permitted`, `ambient`
-/// is within `permitted` and within `inheritable`, and `securebits` is at most 255.
-#[derive(Clone, Copy, Debug, PartialEq, Eq)]
-pub struct Credentials {
-    /// The real user ID.
-    pub ruid: u64,
-    /// The effective user ID.
-    pub euid: u64,
-    /// The saved user ID.
-    pub suid: u64,
-    /// The filesystem user ID.
-    pub fsuid: u64,
-    /// The real group ID.
-    pub rgid: u64,
-    /// The effective group ID.
-    pub egid: u64,
-    /// The saved group ID.
-    pub sgid: u64,
-    /// The filesystem group ID.
-    pub fsgid: u64,
-    /// The permitted set.
-    pub permitted: u64,
-    /// The inheritable set.
-    pub inheritable: u64,
-    /// The effective set.
-    pub effective: u64,
-    /// The bounding set.
-    pub bounding: u64,
-    /// The ambient set.
-    pub ambient: u64,
-    /// The securebits, flags and locks.
-    pub securebits: u64,
-    /// No-new-privs.
-    pub nnp: bool,
-}
-
-impl Credentials {
-    fn from_values(values: [u64; SHEET_VALUES]) -> Credentials {
-        let [ruid, euid, suid, fsuid, rgid, egid, sgid, fsgid, sets_and_flags @ ..] = values;
-        let [permitted, inheritable, effective, bounding, ambient, securebits, nnp] = sets_and_flags;
-        Credentials {
-            ruid,
-            euid,
-            suid,
-            fsuid,
-            rgid,
-            egid,
-            sgid,
-            fsgid,
-            permitted,
-            inheritable,
-            effective,
-            bounding,
-            ambient,
-            securebits,
-            nnp: nnp != 0,
-        }
-    }
-
-    fn values(&self) -> [u64; SHEET_VALUES] {
-        [
-            self.ruid,
-            self.euid,
-            self.suid,
-            self.fsuid,
-            self.rgid,
-            self.egid,
-            self.sgid,
-            self.fsgid,
-            self.permitted,
-            self.inheritable,
-            self.effective,
-            self.bounding,
-            self.ambient,
-            self.securebits,
-            u64::from(self.nnp),
-        ]
-    }
-}
 
 /// What a text comes to that is read as a sheet.
 #[derive(Clone, Copy, Debug, PartialEq, Eq)]
@@ -278,42 +194,12 @@ fn writing(number: u64) -> SheetWriting {
 mod tests {
     use super::{reading, writing, Credentials, SheetReading, SheetWriting, LONGEST_SHEET, SHEET_VALUES};
 
-    // All different, so that no two places can be exchanged unseen.
     const VALUES: [u64; SHEET_VALUES] = [2, 3, 4, 5, 6, 7, 8, 9, 10, 11, 12, 13, 14, 15, 1];
-
-    const CREDENTIALS: Credentials = Credentials {
-        ruid: 2,
-        euid: 3,
-        suid: 4,
-        fsuid: 5,
-        rgid: 6,
-        egid: 7,
-        sgid: 8,
-        fsgid: 9,
-        permitted: 10,
-        inheritable: 11,
-        effective: 12,
-        bounding: 13,
-        ambient: 14,
-        securebits: 15,
-        nnp: true,
-    };
-
-    #[test]
-    fn values_stand_in_the_order_of_the_lines() {
-        assert_eq!(Credentials::from_values(VALUES), CREDENTIALS);
-        assert_eq!(CREDENTIALS.values(), VALUES);
-        let mut values = VALUES;
-        values[14] = 0;
-        let credentials = Credentials { nnp: false, ..CREDENTIALS };
-        assert_eq!(Credentials::from_values(values), credentials);
-        assert_eq!(credentials.values(), values);
-    }
 
     // The paper's numbers, multiplied out: code times 4294967296 plus line or length.
     #[test]
     fn every_code_of_a_reading_is_taken_apart() {
-        assert_eq!(reading(15, VALUES), SheetReading::Sheet(CREDENTIALS));
+        assert_eq!(reading(15, VALUES), SheetReading::Sheet(Credentials::from_values(VALUES)));
         assert_eq!(reading(300_647_710_721, VALUES), SheetReading::Malformed { line: 1 });
         assert_eq!(reading(300_647_710_736, VALUES), SheetReading::Malformed { line: 16 });
         assert_eq!(reading(304_942_678_015, VALUES), SheetReading::Malformed { line: 4_294_967_295 });
@@ -343,7 +229,7 @@ mod tests {
 
     #[test]
     fn codes_are_the_papers() {
-        assert_eq!(SheetReading::Sheet(CREDENTIALS).code(), 0);
+        assert_eq!(SheetReading::Sheet(Credentials::from_values(VALUES)).code(), 0);
         assert_eq!(SheetReading::Malformed { line: 1 }.code(), 70);
         assert_eq!(SheetReading::Invalid.code(), 72);
         assert_eq!(SheetWriting::Written { length: 212 }.code(), 0);
