@@ -35,8 +35,8 @@ fn room_exactly_right_one_short_and_every_other() {
 #[test]
 fn a_refused_plan_changes_no_byte() {
     let broken = read("broken.plan");
-    for room in [0, 1, 224, 225, LONGEST_REPORT, LONGEST_REPORT + 1] {
-        refused(&broken, room, Outcome::Malformed { line: 20 });
+    for room in [0, 1, 265, 266, LONGEST_REPORT, LONGEST_REPORT + 1] {
+        refused(&broken, room, Outcome::Malformed { line: 24 });
         refused(INVALID_START.as_bytes(), room, Outcome::Invalid);
     }
 }
@@ -44,10 +44,10 @@ fn a_refused_plan_changes_no_byte() {
 #[test]
 fn a_plan_cut_anywhere_is_refused_at_the_line_of_the_cut() {
     let plan = read("case-2.plan");
-    // The line of the fault is one more than the whole lines that are left; the sheet alone, lines 1 to 11, is a plan.
+    // The line of the fault is one more than the whole lines that are left; the sheet alone, lines 1 to 15, is a plan.
     for cut in 0..plan.len() {
         let whole_lines = plan[..cut].iter().filter(|&&byte| byte == b'\n').count();
-        if plan[..cut].ends_with(b"\n") && whole_lines == 11 {
+        if plan[..cut].ends_with(b"\n") && whole_lines == 15 {
             refused(&plan[..cut], 0, Outcome::NoRoom);
         } else {
             refused(&plan[..cut], 300, Outcome::Malformed { line: whole_lines as u32 + 1 });
@@ -80,14 +80,14 @@ fn what_stands_after_one_byte_too_many_decides_nothing() {
     let mut text = longest_plan();
     for more in [1, 1_000_000] {
         text.resize(LONGEST_PLAN + more, b'\n');
-        refused(&text, LONGEST_REPORT, Outcome::Malformed { line: 1_292 });
+        refused(&text, LONGEST_REPORT, Outcome::Malformed { line: 1_296 });
     }
 }
 
 #[test]
 fn threads_do_not_disturb_each_other() {
-    let accepted = (read("case-2.plan"), Outcome::Report { length: 225 });
-    let refused = (read("broken.plan"), Outcome::Malformed { line: 20 });
+    let accepted = (read("case-2.plan"), Outcome::Report { length: 266 });
+    let refused = (read("broken.plan"), Outcome::Malformed { line: 24 });
     let longest = (longest_plan(), Outcome::Report { length: LONGEST_REPORT });
     std::thread::scope(|threads| {
         for (plan, expected) in [&accepted, &refused, &longest, &accepted, &refused, &longest] {

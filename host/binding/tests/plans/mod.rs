@@ -4,8 +4,8 @@
 use std::fs;
 use std::path::{Path, PathBuf};
 
-/// A sheet whose real ID is not a user's: well-formed, and not valid.
-pub const INVALID_START: &str = "ruid=4294967295\neuid=0\nsuid=0\nfsuid=0\n\
+/// A sheet whose real user ID is no user's: well-formed, and not valid.
+pub const INVALID_START: &str = "ruid=4294967295\neuid=0\nsuid=0\nfsuid=0\nrgid=0\negid=0\nsgid=0\nfsgid=0\n\
     permitted=0000000000000000\ninheritable=0000000000000000\neffective=0000000000000000\n\
     bounding=0000000000000000\nambient=0000000000000000\nsecurebits=00\nnnp=0\n";
 
@@ -26,8 +26,8 @@ pub fn longest_plan() -> Vec<u8> {
     let full = "000001ffffffffff";
     let ones = "ffffffffffffffff";
     let sheet = format!(
-        "ruid={id}\neuid={id}\nsuid={id}\nfsuid={id}\npermitted={full}\ninheritable={full}\neffective={full}\n\
-         bounding={full}\nambient={full}\nsecurebits=ff\nnnp=1\n"
+        "ruid={id}\neuid={id}\nsuid={id}\nfsuid={id}\nrgid={id}\negid={id}\nsgid={id}\nfsgid={id}\n\
+         permitted={full}\ninheritable={full}\neffective={full}\nbounding={full}\nambient={full}\nsecurebits=ff\nnnp=1\n"
     );
     let step = format!("call=99\na={ones}\nb={ones}\nc={ones}\nattr={}\n", "f".repeat(48));
     [sheet, step.repeat(256)].concat().into_bytes()
