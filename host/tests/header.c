@@ -8,18 +8,19 @@
 #include <stdio.h>
 
 /* As proved in crates/format/specs/Longest.antt. */
-static_assert(URREZKALU_LONGEST_PLAN == 30683, "the longest plan");
-static_assert(URREZKALU_LONGEST_REPORT == 8155, "the longest report");
+static_assert(URREZKALU_LONGEST_PLAN == 30748, "the longest plan");
+static_assert(URREZKALU_LONGEST_REPORT == 8220, "the longest report");
 
 /* As the paper's forms of lines and of version 2 add up. */
-static_assert(URREZKALU_LONGEST_SHEET == 3 * 16 + 17 + 27 + 29 + 27 + 26 + 25 + 14 + 6, "the longest sheet, line by line");
+static_assert(URREZKALU_LONGEST_SHEET == 2 * (3 * 16 + 17) + 27 + 29 + 27 + 26 + 25 + 14 + 6, "the longest sheet, line by line");
 static_assert(URREZKALU_ATTRIBUTE_LENGTH == 5 * 4, "five words of an attribute");
 
 /* The places are in the order of a sheet's lines, and of "attached, permitted, inheritable, effective bit". */
-static_assert(URREZKALU_RUID == 0 && URREZKALU_EUID == 1 && URREZKALU_SUID == 2 && URREZKALU_FSUID == 3, "the places of the IDs");
-static_assert(URREZKALU_PERMITTED == 4 && URREZKALU_INHERITABLE == 5 && URREZKALU_EFFECTIVE == 6 && URREZKALU_BOUNDING == 7 && URREZKALU_AMBIENT == 8,
+static_assert(URREZKALU_RUID == 0 && URREZKALU_EUID == 1 && URREZKALU_SUID == 2 && URREZKALU_FSUID == 3, "the places of the user IDs");
+static_assert(URREZKALU_RGID == 4 && URREZKALU_EGID == 5 && URREZKALU_SGID == 6 && URREZKALU_FSGID == 7, "the places of the group IDs");
+static_assert(URREZKALU_PERMITTED == 8 && URREZKALU_INHERITABLE == 9 && URREZKALU_EFFECTIVE == 10 && URREZKALU_BOUNDING == 11 && URREZKALU_AMBIENT == 12,
               "the places of the sets");
-static_assert(URREZKALU_SECUREBITS == 9 && URREZKALU_NNP == 10 && URREZKALU_SHEET_VALUES == 11, "the last places of a sheet, and their count");
+static_assert(URREZKALU_SECUREBITS == 13 && URREZKALU_NNP == 14 && URREZKALU_SHEET_VALUES == 15, "the last places of a sheet, and their count");
 static_assert(URREZKALU_ATTACHED == 0 && URREZKALU_FILE_PERMITTED == 1 && URREZKALU_FILE_INHERITABLE == 2 && URREZKALU_FILE_EFFECTIVE == 3,
               "the places of a file");
 static_assert(URREZKALU_FILE_VALUES == 4, "their count");
@@ -38,18 +39,18 @@ struct number {
 /* As the paper has it: code times 4294967296 plus line or length. A number of none of the six codes has neither a line nor a length. */
 static const struct number numbers[] = {
     {4, URREZKALU_DONE, 0, URREZKALU_FILE_VALUES},
-    {11, URREZKALU_DONE, 0, URREZKALU_SHEET_VALUES},
+    {15, URREZKALU_DONE, 0, URREZKALU_SHEET_VALUES},
     {20, URREZKALU_DONE, 0, URREZKALU_ATTRIBUTE_LENGTH},
-    {219, URREZKALU_DONE, 0, URREZKALU_LONGEST_SHEET},
-    {225, URREZKALU_DONE, 0, 225},
-    {8155, URREZKALU_DONE, 0, URREZKALU_LONGEST_REPORT},
+    {266, URREZKALU_DONE, 0, 266},
+    {284, URREZKALU_DONE, 0, URREZKALU_LONGEST_SHEET},
+    {8220, URREZKALU_DONE, 0, URREZKALU_LONGEST_REPORT},
     {4294967295, URREZKALU_DONE, 0, 4294967295},
     {94489280512, URREZKALU_OUT_OF_RANGE, 0, 0},
     {120259084288, URREZKALU_NO_ROOM, 0, 0},
     {257698037760, URREZKALU_UNREADABLE, 0, 0},
     {300647710721, URREZKALU_MALFORMED, 1, 0},
-    {300647710732, URREZKALU_MALFORMED, 12, 0},
-    {300647712012, URREZKALU_MALFORMED, 1292, 0},
+    {300647710736, URREZKALU_MALFORMED, 16, 0},
+    {300647712016, URREZKALU_MALFORMED, 1296, 0},
     {304942678015, URREZKALU_MALFORMED, 4294967295, 0},
     {309237645312, URREZKALU_INVALID, 0, 0},
     {4294967301, 1, 0, 0},

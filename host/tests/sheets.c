@@ -23,22 +23,27 @@ static const uint64_t full = 0x1ffffffffff;
 
 /* The paper's report of case 2; one in which no two values are alike; the shortest; the longest. */
 static const struct sheet sheets[] = {
-    {"ruid=1000\neuid=1000\nsuid=1000\nfsuid=1000\npermitted=0000000000002000\ninheritable=0000000000002000\neffective=0000000000002000\n"
-     "bounding=000001ffffffffff\nambient=0000000000002000\nsecurebits=00\nnnp=0\n",
-     195,
-     {1000, 1000, 1000, 1000, 0x2000, 0x2000, 0x2000, 0x1ffffffffff, 0x2000, 0, 0}},
-    {"ruid=7\neuid=1002\nsuid=65534\nfsuid=4294967294\npermitted=0000011223344556\ninheritable=0000018a9bacbdce\neffective=0000010203040506\n"
-     "bounding=000000fedcba9876\nambient=0000010000000400\nsecurebits=b1\nnnp=1\n",
-     199,
-     {7, 1002, 65534, 4294967294, 0x11223344556, 0x18a9bacbdce, 0x10203040506, 0xfedcba9876, 0x10000000400, 0xb1, 1}},
-    {"ruid=0\neuid=0\nsuid=0\nfsuid=0\npermitted=0000000000000000\ninheritable=0000000000000000\neffective=0000000000000000\n"
-     "bounding=0000000000000000\nambient=0000000000000000\nsecurebits=00\nnnp=0\n",
-     183,
-     {0, 0, 0, 0, 0, 0, 0, 0, 0, 0, 0}},
-    {"ruid=4294967294\neuid=4294967294\nsuid=4294967294\nfsuid=4294967294\npermitted=000001ffffffffff\ninheritable=000001ffffffffff\n"
-     "effective=000001ffffffffff\nbounding=000001ffffffffff\nambient=000001ffffffffff\nsecurebits=ff\nnnp=1\n",
-     219,
-     {4294967294, 4294967294, 4294967294, 4294967294, 0x1ffffffffff, 0x1ffffffffff, 0x1ffffffffff, 0x1ffffffffff, 0x1ffffffffff, 0xff, 1}},
+    {"ruid=1000\neuid=1000\nsuid=1000\nfsuid=1000\nrgid=1000\negid=1000\nsgid=1000\nfsgid=1000\n"
+     "permitted=0000000000002000\ninheritable=0000000000002000\neffective=0000000000002000\nbounding=000001ffffffffff\nambient=0000000000002000\n"
+     "securebits=00\nnnp=0\n",
+     236,
+     {1000, 1000, 1000, 1000, 1000, 1000, 1000, 1000, 0x2000, 0x2000, 0x2000, 0x1ffffffffff, 0x2000, 0, 0}},
+    {"ruid=7\neuid=1002\nsuid=65534\nfsuid=4294967294\nrgid=5\negid=1003\nsgid=65533\nfsgid=4294967293\n"
+     "permitted=0000011223344556\ninheritable=0000018a9bacbdce\neffective=0000010203040506\nbounding=000000fedcba9876\nambient=0000010000000400\n"
+     "securebits=b1\nnnp=1\n",
+     244,
+     {7, 1002, 65534, 4294967294, 5, 1003, 65533, 4294967293, 0x11223344556, 0x18a9bacbdce, 0x10203040506, 0xfedcba9876, 0x10000000400, 0xb1, 1}},
+    {"ruid=0\neuid=0\nsuid=0\nfsuid=0\nrgid=0\negid=0\nsgid=0\nfsgid=0\n"
+     "permitted=0000000000000000\ninheritable=0000000000000000\neffective=0000000000000000\nbounding=0000000000000000\nambient=0000000000000000\n"
+     "securebits=00\nnnp=0\n",
+     212,
+     {0, 0, 0, 0, 0, 0, 0, 0, 0, 0, 0, 0, 0, 0, 0}},
+    {"ruid=4294967294\neuid=4294967294\nsuid=4294967294\nfsuid=4294967294\nrgid=4294967294\negid=4294967294\nsgid=4294967294\nfsgid=4294967294\n"
+     "permitted=000001ffffffffff\ninheritable=000001ffffffffff\neffective=000001ffffffffff\nbounding=000001ffffffffff\nambient=000001ffffffffff\n"
+     "securebits=ff\nnnp=1\n",
+     284,
+     {4294967294, 4294967294, 4294967294, 4294967294, 4294967294, 4294967294, 4294967294, 4294967294, 0x1ffffffffff, 0x1ffffffffff, 0x1ffffffffff,
+      0x1ffffffffff, 0x1ffffffffff, 0xff, 1}},
 };
 static const struct sheet *const case_2 = &sheets[0];
 
@@ -57,21 +62,30 @@ static const struct {
     {"suid=1000", "suid=+1000", 3},
     {"suid=1000\nfsuid=1000\n", "fsuid=1000\nsuid=1000\n", 3},
     {"fsuid=1000", "fsuid=3e8", 4},
-    {"permitted=0000000000002000", "permitted=000000000002000", 5},
-    {"inheritable=0000000000002000", "inheritable=00000000000002000", 6},
-    {"effective=0000000000002000", "effective=0x00000000002000", 7},
-    {"bounding=000001ffffffffff", "bounding=000001Ffffffffff", 8},
-    {"ambient=0000000000002000", "ambient=000000000000200g", 9},
-    {"ambient=0000000000002000\n", "ambient=0000000000002000\r\n", 9},
-    {"securebits=00", "securebits=0", 10},
-    {"securebits=00", "securebits=100", 10},
-    {"nnp=0", "nnp=2", 11},
-    {"nnp=0", "nnp=00", 11},
-    {"nnp=0\n", "nnp=0", 11},
-    {"nnp=0\n", "nnp=0\n\n", 12},
-    {"nnp=0\n", "nnp=0\nx", 12},
-    {"nnp=0\n", "nnp=0\nnnp=0\n", 12},
-    {"nnp=0\n", "nnp=0\ncall=8\na=0000000000000000\nb=0000000000000000\nc=0000000000000000\nattr=\n", 12},
+    {"rgid=1000\negid=1000\nsgid=1000\nfsgid=1000\n", "", 5},
+    {"rgid=1000", "rgid=4294967296", 5},
+    {"rgid=1000\negid=1000\n", "egid=1000\nrgid=1000\n", 5},
+    {"egid=1000", "egid=01000", 6},
+    {"egid=1000", "euid=1000", 6},
+    {"sgid=1000", "sgid=", 7},
+    {"sgid=1000\n", "", 7},
+    {"fsgid=1000", "fsgid=-1000", 8},
+    {"fsgid=1000", "fsgid=18446744073709552616", 8},
+    {"permitted=0000000000002000", "permitted=000000000002000", 9},
+    {"inheritable=0000000000002000", "inheritable=00000000000002000", 10},
+    {"effective=0000000000002000", "effective=0x00000000002000", 11},
+    {"bounding=000001ffffffffff", "bounding=000001Ffffffffff", 12},
+    {"ambient=0000000000002000", "ambient=000000000000200g", 13},
+    {"ambient=0000000000002000\n", "ambient=0000000000002000\r\n", 13},
+    {"securebits=00", "securebits=0", 14},
+    {"securebits=00", "securebits=100", 14},
+    {"nnp=0", "nnp=2", 15},
+    {"nnp=0", "nnp=00", 15},
+    {"nnp=0\n", "nnp=0", 15},
+    {"nnp=0\n", "nnp=0\n\n", 16},
+    {"nnp=0\n", "nnp=0\nx", 16},
+    {"nnp=0\n", "nnp=0\nnnp=0\n", 16},
+    {"nnp=0\n", "nnp=0\ncall=8\na=0000000000000000\nb=0000000000000000\nc=0000000000000000\nattr=\n", 16},
     /* Malformed comes before invalid. */
     {"ruid=1000\neuid=1000", "ruid=4294967295\neuid=x", 2},
 };
@@ -87,6 +101,10 @@ static const struct {
     {"euid=1000", "euid=4294967295", URREZKALU_EUID, 4294967295},
     {"suid=1000", "suid=4294967295", URREZKALU_SUID, 4294967295},
     {"fsuid=1000", "fsuid=4294967295", URREZKALU_FSUID, 4294967295},
+    {"rgid=1000", "rgid=4294967295", URREZKALU_RGID, 4294967295},
+    {"egid=1000", "egid=4294967295", URREZKALU_EGID, 4294967295},
+    {"sgid=1000", "sgid=4294967295", URREZKALU_SGID, 4294967295},
+    {"fsgid=1000", "fsgid=4294967295", URREZKALU_FSGID, 4294967295},
     {"permitted=0000000000002000", "permitted=0000020000002000", URREZKALU_PERMITTED, 0x20000002000},
     {"permitted=0000000000002000", "permitted=0000000000000000", URREZKALU_PERMITTED, 0},
     {"inheritable=0000000000002000", "inheritable=0000020000002000", URREZKALU_INHERITABLE, 0x20000002000},
@@ -106,6 +124,10 @@ static const struct {
     {URREZKALU_EUID, 4294968296},
     {URREZKALU_SUID, 0x8000000000000000},
     {URREZKALU_FSUID, 0xffffffffffffffff},
+    {URREZKALU_RGID, 4294967296},
+    {URREZKALU_EGID, 4294968296},
+    {URREZKALU_SGID, 0x8000000000000000},
+    {URREZKALU_FSGID, 0xffffffffffffffff},
     {URREZKALU_PERMITTED, 0xffffffffffffffff},
     {URREZKALU_SECUREBITS, 256},
     {URREZKALU_SECUREBITS, 4294967296},
@@ -143,7 +165,7 @@ static void expect_written(const char *what, const uint64_t *values, size_t coun
 /* A text is refused thus whether it lacks room or not: with no values, one too few, just enough, and more. */
 static void expect_refused_text(const char *what, const char *text, size_t length, uint64_t number)
 {
-    static const size_t counts[] = {0, 10, 11, 13};
+    static const size_t counts[] = {0, 14, 15, 17};
     for (size_t i = 0; i < sizeof counts / sizeof counts[0]; i++) {
         expect_read(what, text, length, counts[i], number, NULL);
     }
@@ -152,7 +174,7 @@ static void expect_refused_text(const char *what, const char *text, size_t lengt
 /* Values are not valid whether the sheet has room or not. */
 static void expect_invalid_values(const char *what, const uint64_t *values, size_t count)
 {
-    static const size_t rooms[] = {0, 182, 183, URREZKALU_LONGEST_SHEET, URREZKALU_LONGEST_SHEET + 1};
+    static const size_t rooms[] = {0, 211, 212, URREZKALU_LONGEST_SHEET, URREZKALU_LONGEST_SHEET + 1};
     for (size_t i = 0; i < sizeof rooms / sizeof rooms[0]; i++) {
         expect_written(what, values, count, rooms[i], refused(URREZKALU_INVALID, 0), NULL);
     }
@@ -184,7 +206,7 @@ static void try_sheet(const struct sheet *sheet)
         printf(TEST ": a sheet of %zu bytes has %zu\n", sheet->length, strlen(sheet->text));
         exit(2);
     }
-    for (size_t count = 0; count <= 16; count++) {
+    for (size_t count = 0; count <= 20; count++) {
         if (count < URREZKALU_SHEET_VALUES) {
             expect_read("a sheet", sheet->text, sheet->length, count, refused(URREZKALU_NO_ROOM, 0), NULL);
         } else {
@@ -205,7 +227,7 @@ static void try_sheet(const struct sheet *sheet)
         expect_refused_text("a sheet cut short", sheet->text, cut, refused(URREZKALU_MALFORMED, line));
     }
     /* The NUL that ends it in C is text past the sheet. */
-    expect_refused_text("a sheet and a NUL", sheet->text, sheet->length + 1, refused(URREZKALU_MALFORMED, 12));
+    expect_refused_text("a sheet and a NUL", sheet->text, sheet->length + 1, refused(URREZKALU_MALFORMED, 16));
 }
 
 static void try_edits(void)
@@ -225,7 +247,7 @@ static void try_edits(void)
     }
 }
 
-/* Values are eleven, and any other count of them is not valid. */
+/* Values are fifteen, and any other count of them is not valid. */
 static void try_counts(void)
 {
     uint64_t values[2 * URREZKALU_SHEET_VALUES];
@@ -234,7 +256,7 @@ static void try_counts(void)
     }
     for (size_t count = 0; count <= sizeof values / sizeof values[0]; count++) {
         if (count != URREZKALU_SHEET_VALUES) {
-            expect_invalid_values("not eleven values", values, count);
+            expect_invalid_values("not fifteen values", values, count);
         }
     }
 }
@@ -244,7 +266,7 @@ static void try_bits(void)
 {
     for (size_t set = URREZKALU_PERMITTED; set < URREZKALU_PERMITTED + SETS; set++) {
         for (unsigned bit = 41; bit < 64; bit++) {
-            uint64_t values[URREZKALU_SHEET_VALUES] = {0, 0, 0, 0, full, full, full, full, full, 0, 0};
+            uint64_t values[URREZKALU_SHEET_VALUES] = {0, 0, 0, 0, 0, 0, 0, 0, full, full, full, full, full, 0, 0};
             values[set] |= (uint64_t)1 << bit;
             expect_invalid_values("a bit above 40", values, URREZKALU_SHEET_VALUES);
         }
@@ -260,12 +282,12 @@ static void try_long_texts(void)
     for (size_t i = 0; i < sizeof sheets / sizeof sheets[0]; i++) {
         memset(text, '\n', sizeof text);
         memcpy(text, sheets[i].text, sheets[i].length);
-        expect_refused_text("a sheet and newlines", text, sizeof text, refused(URREZKALU_MALFORMED, 12));
-        expect_refused_text("a sheet and newlines, cut", text, URREZKALU_LONGEST_SHEET + 1, refused(URREZKALU_MALFORMED, 12));
+        expect_refused_text("a sheet and newlines", text, sizeof text, refused(URREZKALU_MALFORMED, 16));
+        expect_refused_text("a sheet and newlines, cut", text, URREZKALU_LONGEST_SHEET + 1, refused(URREZKALU_MALFORMED, 16));
         /* The digit of the last line. */
         text[sheets[i].length - 2] = '2';
-        expect_refused_text("a broken sheet and newlines", text, sizeof text, refused(URREZKALU_MALFORMED, 11));
-        expect_refused_text("a broken sheet and newlines, cut", text, URREZKALU_LONGEST_SHEET + 1, refused(URREZKALU_MALFORMED, 11));
+        expect_refused_text("a broken sheet and newlines", text, sizeof text, refused(URREZKALU_MALFORMED, 15));
+        expect_refused_text("a broken sheet and newlines, cut", text, URREZKALU_LONGEST_SHEET + 1, refused(URREZKALU_MALFORMED, 15));
     }
 }
 
