@@ -5,7 +5,7 @@
  *
  * In the stream each plan is its length, 32 bits with the least significant byte first, and then its bytes.
  *
- * A text is run as a plan, and read as a sheet, whole and in its first eleven lines; what is read is written again. Attributes are of every
+ * A text is run as a plan, and read as a sheet, whole and in its first fifteen lines; what is read is written again. Attributes are of every
  * length from none to past the longest. Each function is called with no room, with one place too few, with exactly enough and with more; to read
  * values or to write an attribute, with every number of places from none to past enough. All that in three places: with both buffers at the very
  * end, and then at the very start, of mappings that have inaccessible pages on both sides, what is read in pages that cannot be written; and then

@@ -100,7 +100,7 @@ bool try_function(struct bench *bench, struct trial *trial, enum function functi
 /* Counts a fault of the input and the function that were tried last, unless all is right. */
 void expect(struct bench *bench, bool right, const char *what);
 
-/* Runs a text: as a plan and as a sheet, its first eleven lines as a sheet, and the values of that. */
+/* Runs a text: as a plan and as a sheet, its first fifteen lines as a sheet, and the values of that. */
 void try_text(struct bench *bench, const char *name, size_t position, const uint8_t *text, size_t text_length);
 
 /* Runs the bytes as an attribute, and what they are read as. */

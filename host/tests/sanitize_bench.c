@@ -8,7 +8,7 @@
 
 enum {
     MORE = 64,            /* How many bytes more room than enough is. */
-    SHORTEST_SHEET = 183, /* The bytes of a sheet of zeros. */
+    SHORTEST_SHEET = 212, /* The bytes of a sheet of zeros. */
     VALUE = sizeof(uint64_t)
 };
 
@@ -23,8 +23,8 @@ static const struct nature {
     uint32_t refusal;     /* The code of its other refusal, where there is room. */
     size_t rooms;         /* Such an input is run with 0 to so many places; others, or all if that is 0, with room about what is written. */
 } functions[FUNCTIONS] = {
-    [RUN_PLAN] = {"urrezkalu_run_plan", 1, SHORTEST_SHEET, URREZKALU_LONGEST_REPORT, URREZKALU_LONGEST_PLAN, 1292, URREZKALU_INVALID, 0},
-    [READ_SHEET] = {"urrezkalu_read_sheet", VALUE, URREZKALU_SHEET_VALUES, URREZKALU_SHEET_VALUES, URREZKALU_LONGEST_SHEET, 12, URREZKALU_INVALID, 13},
+    [RUN_PLAN] = {"urrezkalu_run_plan", 1, SHORTEST_SHEET, URREZKALU_LONGEST_REPORT, URREZKALU_LONGEST_PLAN, 1296, URREZKALU_INVALID, 0},
+    [READ_SHEET] = {"urrezkalu_read_sheet", VALUE, URREZKALU_SHEET_VALUES, URREZKALU_SHEET_VALUES, URREZKALU_LONGEST_SHEET, 16, URREZKALU_INVALID, 17},
     [WRITE_SHEET] = {"urrezkalu_write_sheet", 1, SHORTEST_SHEET, URREZKALU_LONGEST_SHEET, URREZKALU_SHEET_VALUES * VALUE, 0, URREZKALU_INVALID, 0},
     [READ_ATTRIBUTE] = {"urrezkalu_read_attribute", VALUE, URREZKALU_FILE_VALUES, URREZKALU_FILE_VALUES, URREZKALU_ATTRIBUTE_LENGTH, 0,
                         URREZKALU_UNREADABLE, 13},

@@ -230,15 +230,41 @@ static uint64_t tells_the_line_before(const struct call *call)
 
 static uint64_t takes_one_value_less(const struct call *call)
 {
-    struct call fewer = *call;
     uint64_t values[URREZKALU_SHEET_VALUES] = {0};
     if (call->input_length != sizeof values - sizeof values[0]) {
         return call_library(call);
     }
     memcpy(values, call->input, call->input_length);
-    fewer.input = (const uint8_t *)values;
-    fewer.input_length = sizeof values;
-    return call_library(&fewer);
+    return urrezkalu_write_sheet(values, URREZKALU_SHEET_VALUES, call->output, call->output_length);
+}
+
+/* The user IDs go where the group IDs are, and these where those were. */
+static void exchange_ids(uint64_t *values)
+{
+    uint64_t users[URREZKALU_RGID];
+    memcpy(users, values, sizeof users);
+    memcpy(values, values + URREZKALU_RGID, sizeof users);
+    memcpy(values + URREZKALU_RGID, users, sizeof users);
+}
+
+static uint64_t reads_users_as_groups(const struct call *call)
+{
+    uint64_t number = call_library(call);
+    if (urrezkalu_code(number) == URREZKALU_DONE) {
+        exchange_ids((uint64_t *)call->output);
+    }
+    return number;
+}
+
+static uint64_t writes_users_as_groups(const struct call *call)
+{
+    uint64_t values[URREZKALU_SHEET_VALUES];
+    if (call->input_length != sizeof values) {
+        return call_library(call);
+    }
+    memcpy(values, call->input, sizeof values);
+    exchange_ids(values);
+    return urrezkalu_write_sheet(values, URREZKALU_SHEET_VALUES, call->output, call->output_length);
 }
 
 const struct mishap mishaps[] = {
@@ -263,6 +289,7 @@ enum {
     WITH_INPUT = ALL & ~(1 << WRITE_ATTRIBUTE), /* The operands of that one are no buffer of its. */
     WITH_LINES = 1 << RUN_PLAN | 1 << READ_SHEET,
     READ_AGAIN = ALL & ~(1 << RUN_PLAN), /* Nothing here reads a report. */
+    SHEET_READER = 1 << READ_SHEET,
     SHEET_WRITER = 1 << WRITE_SHEET
 };
 
@@ -285,5 +312,7 @@ const struct fault faults[] = {
     {"changes the last place", changes_the_last_place, READ_AGAIN, FOUND_BY_CHECK},
     {"tells the line before", tells_the_line_before, WITH_LINES, FOUND_BY_CHECK},
     {"takes one value less", takes_one_value_less, SHEET_WRITER, FOUND_BY_CHECK},
+    {"reads user IDs as group IDs", reads_users_as_groups, SHEET_READER, FOUND_BY_CHECK},
+    {"writes user IDs as group IDs", writes_users_as_groups, SHEET_WRITER, FOUND_BY_CHECK},
 };
 const size_t faults_count = sizeof faults / sizeof faults[0];

@@ -14,13 +14,14 @@ static const char *const endings[] = {"a fault in memory", "an end by the saniti
 /* A sheet, with the values in it changed in all ways; the same cut short; a plan. Attributes: none, of both versions, and an unreadable one. */
 void try_inputs(struct bench *bench)
 {
-    static const char plan[] = "ruid=1\neuid=2\nsuid=3\nfsuid=4\npermitted=0000000000000007\ninheritable=0000000000000006\n"
-                               "effective=0000000000000003\nbounding=000001ffffffffff\nambient=0000000000000002\nsecurebits=01\nnnp=0\n"
+    static const char plan[] = "ruid=1\neuid=2\nsuid=3\nfsuid=4\nrgid=5\negid=6\nsgid=7\nfsgid=8\n"
+                               "permitted=0000000000000007\ninheritable=0000000000000006\neffective=0000000000000003\n"
+                               "bounding=000001ffffffffff\nambient=0000000000000002\nsecurebits=01\nnnp=0\n"
                                "call=8\na=0000000000000000\nb=0000000000000000\nc=0000000000000000\nattr=\n";
-    static const size_t sheet_length = 183;
+    static const size_t sheet_length = 212;
     static const uint8_t version_1[12] = {1, 0, 0, 1, 0, 0x20};
     static const uint8_t version_2[20] = {1, 0, 0, 2, 0, 0x20};
-    for (unsigned way = 0; way < 28; way++) {
+    for (unsigned way = 0; way < 36; way++) {
         try_text(bench, "self-test", 0, (const uint8_t *)plan, sheet_length);
     }
     try_text(bench, "self-test", 0, (const uint8_t *)plan, sheet_length - 1);

@@ -3,9 +3,9 @@
 
 #include <string.h>
 
-enum { SHEET_LINES = 11, MOST_VALUES = 13 };
+enum { SHEET_LINES = 15, MOST_VALUES = 17 };
 
-/* The bytes of the text's first eleven lines, or 0 if it has fewer. */
+/* The bytes of the text's first fifteen lines, or 0 if it has fewer. */
 static size_t length_of_sheet(const uint8_t *text, size_t text_length)
 {
     size_t lines = 0;
@@ -38,7 +38,7 @@ static void try_values_read(struct bench *bench, const uint64_t *values, const u
     }
 }
 
-/* Writes some of the values and more, 0 to 13 of them, one of which is another: with each text in another way. What is then written has to be read
+/* Writes some of the values and more, 0 to 17 of them, one of which is another: with each text in another way. What is then written has to be read
  * as those values. */
 static void try_values_changed(struct bench *bench, const uint64_t *values)
 {
@@ -47,21 +47,21 @@ static void try_values_changed(struct bench *bench, const uint64_t *values)
     size_t way = bench->texts;
     memcpy(changed, values, URREZKALU_SHEET_VALUES * sizeof *values);
     changed[way % MOST_VALUES] = others[way / MOST_VALUES % (sizeof others / sizeof others[0])];
-    /* Every other time they are eleven, so that it is the other value which decides. */
+    /* Every other time they are fifteen, so that it is the other value which decides. */
     size_t count = way % 2 == 0 ? URREZKALU_SHEET_VALUES : way / 2 % (MOST_VALUES + 1);
     struct trial writing;
     lay_down(bench, (const uint8_t *)changed, count * sizeof *changed);
     if (!try_function(bench, &writing, WRITE_SHEET) || urrezkalu_code(writing.number) != URREZKALU_DONE) {
         return;
     }
-    expect(bench, count == URREZKALU_SHEET_VALUES, "a sheet has eleven values");
+    expect(bench, count == URREZKALU_SHEET_VALUES, "a sheet has fifteen values");
     uint64_t again[URREZKALU_SHEET_VALUES];
     const struct call reading = {READ_SHEET, writing.output, urrezkalu_length(writing.number), (uint8_t *)again, sizeof again};
     expect(bench, bench->call(&reading) == URREZKALU_SHEET_VALUES && memcmp(again, changed, sizeof again) == 0,
            "the sheet is not read as what was written");
 }
 
-/* Reads the text's first eleven lines. */
+/* Reads the text's first fifteen lines. */
 static void try_sheet(struct bench *bench, const uint8_t *text, size_t sheet_length, uint64_t plan_number)
 {
     struct trial reading;
