@@ -47,7 +47,7 @@ check 'all examples at once' 1 "$examples"/*.plan
 cp "$examples/case-2.plan" good.plan
 cp "$examples/case-2.report" good.report
 cp "$examples/broken.plan" "$examples/invalid-sheet.plan" .
-says 'broken.plan:20: malformed plan: this line is the first that is missing, incomplete or wrong'
+says 'broken.plan:24: malformed plan: this line is the first that is missing, incomplete or wrong'
 check 'a malformed plan' 1 broken.plan
 says 'invalid-sheet.plan: the credentials at the start are not valid'
 check 'a start that is not valid' 1 invalid-sheet.plan
@@ -73,14 +73,14 @@ fi
 
 # The greatest status counts, in either order, and every plan is looked at.
 accepts good.plan good.report
-says "broken.plan:20: $fault"
+says "broken.plan:24: $fault"
 accepts good.plan good.report
 check 'a refused plan between accepted ones' 1 good.plan broken.plan good.plan
 says 'missing.plan: cannot be read: No such file or directory'
 says "invalid-sheet.plan: $invalid"
 accepts good.plan good.report
 check 'a missing file first' 2 missing.plan invalid-sheet.plan good.plan
-says "broken.plan:20: $fault"
+says "broken.plan:24: $fault"
 says '.: cannot be read: Is a directory'
 check 'a directory last' 2 broken.plan .
 
@@ -95,20 +95,28 @@ check 'NULs' 1 nul.plan
     cat good.plan
     printf '\0'
 } >nul-after.plan
-says "nul-after.plan:17: $fault"
+says "nul-after.plan:21: $fault"
 check 'a NUL after a plan' 1 nul-after.plan
-head -n 13 good.plan >cut.plan
-says "cut.plan:14: $fault"
-check 'a plan cut after line 13' 1 cut.plan
+head -n 17 good.plan >cut.plan
+says "cut.plan:18: $fault"
+check 'a plan cut after line 17' 1 cut.plan
 head -c -1 good.plan >no-newline.plan
-says "no-newline.plan:16: $fault"
+says "no-newline.plan:20: $fault"
 check 'no last newline' 1 no-newline.plan
 
-# The longest plan, 30683 bytes, has the longest report, 8155 bytes. One byte more is a fault, and so is a megabyte more.
+# Group IDs: none at all, and one that is no group's.
+sed '/gid=/d' good.plan >no-groups.plan
+says "no-groups.plan:5: $fault"
+check 'no group IDs' 1 no-groups.plan
+sed 's/^sgid=.*/sgid=4294967295/' good.plan >no-group.plan
+says "no-group.plan: $invalid"
+check 'a saved group ID that is not valid' 1 no-group.plan
+
+# The longest plan, 30748 bytes, has the longest report, 8220 bytes. One byte more is a fault, and so is a megabyte more.
 ones=ffffffffffffffff
 full=000001ffffffffff
 {
-    for id in ruid euid suid fsuid; do
+    for id in ruid euid suid fsuid rgid egid sgid fsgid; do
         echo $id=4294967294
     done
     for set in permitted inheritable effective bounding ambient; do
@@ -125,21 +133,21 @@ for _ in $(seq 256); do
 done >results
 cat sheet steps >longest.plan
 cat results sheet >longest.report
-test "$(wc -c <longest.plan)" -eq 30683
-test "$(wc -c <longest.report)" -eq 8155
+test "$(wc -c <longest.plan)" -eq 30748
+test "$(wc -c <longest.report)" -eq 8220
 accepts longest.plan longest.report
 check 'the longest plan' 0 longest.plan
 {
     cat longest.plan
     echo
 } >longer.plan
-says "longer.plan:1292: $fault"
+says "longer.plan:1296: $fault"
 check 'one byte more than the longest plan' 1 longer.plan
 {
     cat longest.plan
     head -c 1100000 /dev/zero | tr '\0' '\n'
 } >large.plan
-says "large.plan:1292: $fault"
+says "large.plan:1296: $fault"
 check 'over a megabyte, the longest plan first' 1 large.plan
 head -c 1100000 /dev/zero | tr '\0' x >noise.plan
 says "noise.plan:1: $fault"
