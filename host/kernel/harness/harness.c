@@ -85,50 +85,50 @@ static void read_image(void)
     free(files);
 }
 
-/* Four user IDs, four group IDs, one supplementary group or ffffffff, five sets, securebits, no-new-privs. */
+static int read_ids(uint32_t ids[IDS])
+{
+    return scanf("%" SCNx32 " %" SCNx32 " %" SCNx32 " %" SCNx32, &ids[REAL], &ids[EFFECTIVE], &ids[SAVED], &ids[FILESYSTEM]);
+}
+
+/* The fields of a sheet: four user IDs, four group IDs, five sets, securebits, no-new-privs. Then one supplementary group or ffffffff. */
 static void read_start(struct state *start, uint32_t *member)
 {
-    int found = 0;
-    for (int i = 0; i < IDS; i++) {
-        found += scanf("%" SCNx32, &start->uids[i]);
-    }
-    for (int i = 0; i < IDS; i++) {
-        found += scanf("%" SCNx32, &start->gids[i]);
-    }
-    found += scanf("%" SCNx32, member);
+    int found = read_ids(start->uids) + read_ids(start->gids);
     found += scanf("%" SCNx64 " %" SCNx64 " %" SCNx64, &start->permitted, &start->inheritable, &start->effective);
     found += scanf("%" SCNx64 " %" SCNx64, &start->bounding, &start->ambient);
-    found += scanf("%" SCNx32 " %" SCNx32, &start->securebits, &start->nnp);
+    found += scanf("%" SCNx32 " %" SCNx32 " %" SCNx32, &start->securebits, &start->nnp, member);
     if (found != 16) {
         malformed("a start");
     }
 }
 
-/* The call and its operands; then, meant for launches, the tracer, the file's group, its number in the image or ffffffff, and the attribute. */
+/* The call and its operands; then, meant for launches, the tracer, the file's number in the image or ffffffff, and the attribute. */
 static void read_step(struct order *order, struct file *file)
 {
     int found = scanf("%" SCNx32 " %" SCNx64 " %" SCNx64 " %" SCNx64, &order->call, &order->operands[0], &order->operands[1], &order->operands[2]);
-    found += scanf("%" SCNx32 " %" SCNx32 " %" SCNx32, &order->tracer, &file->group, &file->image);
-    if (found != 7) {
+    found += scanf("%" SCNx32 " %" SCNx32, &order->tracer, &file->image);
+    if (found != 6) {
         malformed("a step");
     }
     read_attribute(file);
     uint64_t flags = order->operands[1];
     file->owner = (uint32_t)order->operands[0];
+    file->group = (uint32_t)order->operands[2];
     file->mode = 0755 | (flags & SET_USER_ID ? 04000 : 0) | (flags & SET_GROUP_ID ? 02000 : 0);
     file->nosuid = (flags & NOSUID) != 0;
+}
+
+static void print_ids(const uint32_t ids[IDS])
+{
+    printf(" %" PRIx32 " %" PRIx32 " %" PRIx32 " %" PRIx32, ids[REAL], ids[EFFECTIVE], ids[SAVED], ids[FILESYSTEM]);
 }
 
 static void print_result(const struct result *result)
 {
     const struct state *after = &result->after;
     printf("%" PRIx32 " %" PRIx64, result->error, result->value);
-    for (int i = 0; i < IDS; i++) {
-        printf(" %" PRIx32, after->uids[i]);
-    }
-    for (int i = 0; i < IDS; i++) {
-        printf(" %" PRIx32, after->gids[i]);
-    }
+    print_ids(after->uids);
+    print_ids(after->gids);
     printf(" %" PRIx64 " %" PRIx64 " %" PRIx64, after->permitted, after->inheritable, after->effective);
     printf(" %" PRIx64 " %" PRIx64 " %" PRIx32 " %" PRIx32 "\n", after->bounding, after->ambient, after->securebits, after->nnp);
 }

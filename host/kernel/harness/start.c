@@ -16,20 +16,21 @@ static void control(const char *what, unsigned long option, unsigned long a, uns
     }
 }
 
-static void set_groups(const uint32_t gids[IDS], uint32_t member)
+/* The one supplementary group, or none. */
+static void set_member(uint32_t member)
 {
-    if (syscall(SYS_setgroups, member == NONE ? 0 : 1, &member) != 0 || syscall(SYS_setresgid, gids[REAL], gids[EFFECTIVE], gids[SAVED]) != 0) {
-        give_up("groups");
+    if (syscall(SYS_setgroups, member == NONE ? 0 : 1, &member) != 0) {
+        give_up("setgroups");
     }
-    syscall(SYS_setfsgid, gids[FILESYSTEM]);
 }
 
-static void set_users(const uint32_t uids[IDS])
+/* Four IDs by two calls: setresuid and setfsuid, or those of groups. The second cannot fail, and the first state would show if it had. */
+static void set_ids(const char *what, long set_three, long set_filesystem, const uint32_t ids[IDS])
 {
-    if (syscall(SYS_setresuid, uids[REAL], uids[EFFECTIVE], uids[SAVED]) != 0) {
-        give_up("setresuid");
+    if (syscall(set_three, ids[REAL], ids[EFFECTIVE], ids[SAVED]) != 0) {
+        give_up(what);
     }
-    syscall(SYS_setfsuid, uids[FILESYSTEM]);
+    syscall(set_filesystem, ids[FILESYSTEM]);
 }
 
 /* The order in which every valid start can be reached that is within the harness's own sets: what takes a capability away from the thread comes
@@ -39,7 +40,8 @@ void become(const struct state *start, uint32_t member)
 {
     struct state own;
     read_state(&own);
-    set_groups(start->gids, member);
+    set_member(member);
+    set_ids("setresgid", SYS_setresgid, SYS_setfsgid, start->gids);
     if (set_capabilities(own.permitted, start->inheritable, own.permitted) != 0) {
         give_up("capset of the inheritable set");
     }
@@ -49,7 +51,7 @@ void become(const struct state *start, uint32_t member)
         }
     }
     control("NO_SETUID_FIXUP", PR_SET_SECUREBITS, SECBIT_NO_SETUID_FIXUP, 0);
-    set_users(start->uids);
+    set_ids("setresuid", SYS_setresuid, SYS_setfsuid, start->uids);
     for (unsigned long capability = 0; capability <= CAP_LAST_CAP; capability++) {
         if ((own.bounding & ~start->bounding) >> capability & 1) {
             control("bounding drop", PR_CAPBSET_DROP, capability, 0);

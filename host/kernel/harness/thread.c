@@ -32,7 +32,11 @@ enum {
     SETUID,
     SETREUID,
     SETRESUID,
-    SETFSUID
+    SETFSUID,
+    SETGID,
+    SETREGID,
+    SETRESGID,
+    SETFSGID
 };
 
 /* The value of a line of /proc/self/status, past its key. */
@@ -149,6 +153,14 @@ static long perform(const struct order *order)
         return syscall(SYS_setresuid, a, b, c);
     case SETFSUID:
         return syscall(SYS_setfsuid, a, b, c);
+    case SETGID:
+        return syscall(SYS_setgid, a, b, c);
+    case SETREGID:
+        return syscall(SYS_setregid, a, b, c);
+    case SETRESGID:
+        return syscall(SYS_setresgid, a, b, c);
+    case SETFSGID:
+        return syscall(SYS_setfsgid, a, b, c);
     default:
         errno = ENOSYS;
         return -1;

@@ -2,6 +2,7 @@
 
 use crate::credentials::*;
 use crate::departures::{Departure::*, Switches};
+use crate::id_calls::{set, set_filesystem, set_three, set_two};
 use crate::launching::launch;
 use crate::step::*;
 
@@ -30,17 +31,14 @@ pub fn perform(on: Switches, before: &Thread, step: &Step) -> Outcome {
         GET_KEEP_CAPS => Outcome::done(u64::from(old.is_secure(SECBIT_KEEP_CAPS)), *before),
         SET_NO_NEW_PRIVS => with(before, |new| new.nnp = true),
         GET_NO_NEW_PRIVS => Outcome::done(u64::from(old.nnp), *before),
-        SETUID => setuid(before, step.a as u32),
-        SETREUID => setreuid(before, step.a as u32, step.b as u32),
-        SETRESUID => setresuid(on, before, step.a as u32, step.b as u32, step.c as u32),
-        _ => setfsuid(before, step.a as u32),
+        _ => id_call(on, before, &step),
     }
 }
 
 // The step as the rules take it, or nothing where it is refused with 22 before any rule. A switch leaves the step in, as the kernel sees it.
 fn decode(on: Switches, before: &Thread, step: &Step) -> Option<Step> {
     let mut step = step.clone();
-    let is_call = (EXECVE..=SETFSUID).contains(&step.call);
+    let is_call = (EXECVE..=SETFSGID).contains(&step.call);
     if !is_call || step.call != EXECVE && !step.attribute.is_empty() {
         return None;
     }
@@ -48,7 +46,7 @@ fn decode(on: Switches, before: &Thread, step: &Step) -> Option<Step> {
         return None;
     }
     let accepted = match step.call {
-        EXECVE => step.a < u64::from(LEAVE) && step.b <= FLAGS,
+        EXECVE => step.a < u64::from(LEAVE) && step.b <= FLAGS && step.c < u64::from(LEAVE),
         CAPSET => {
             let is_within = (step.a | step.b | step.c) & !FULL == 0;
             [&mut step.a, &mut step.b, &mut step.c].into_iter().for_each(|set| *set &= FULL);
@@ -60,10 +58,10 @@ fn decode(on: Switches, before: &Thread, step: &Step) -> Option<Step> {
         SET_SECUREBITS if step.a > u64::from(SECBITS_OF_THE_PAPER) => on.on(SecurebitsOfPrograms),
         SET_KEEP_CAPS => step.a <= 1,
         SET_NO_NEW_PRIVS => step.a == 1,
-        SETUID => is_id(on, &mut step.a) && step.a != u64::from(LEAVE),
-        SETREUID => is_id(on, &mut step.a) & is_id(on, &mut step.b),
-        SETRESUID => is_id(on, &mut step.a) & is_id(on, &mut step.b) & is_id(on, &mut step.c),
-        SETFSUID => is_id(on, &mut step.a),
+        SETUID | SETGID => is_id(on, &mut step.a) && step.a != u64::from(LEAVE),
+        SETREUID | SETREGID => is_id(on, &mut step.a) & is_id(on, &mut step.b),
+        SETRESUID | SETRESGID => is_id(on, &mut step.a) & is_id(on, &mut step.b) & is_id(on, &mut step.c),
+        SETFSUID | SETFSGID => is_id(on, &mut step.a),
         _ => true,
     };
     accepted.then_some(step)
@@ -151,101 +149,59 @@ fn set_keep_caps(before: &Thread, keep: bool) -> Outcome {
     })
 }
 
-fn setuid(before: &Thread, id: u32) -> Outcome {
+// The calls of user IDs and those of group IDs have the same rules. A capability set is touched by the first alone.
+fn id_call(on: Switches, before: &Thread, step: &Step) -> Outcome {
     let old = &before.credentials;
-    let mut uids = old.uids;
-    if old.has(CAP_SETUID) {
-        uids = Ids::all(id);
-    } else if id != uids.real && id != uids.saved {
-        return Outcome::refused(EPERM, before);
-    }
-    uids.effective = id;
-    with_ids(before, uids)
-}
-
-fn setreuid(before: &Thread, real: u32, effective: u32) -> Outcome {
-    let old = &before.credentials;
-    let mut uids = old.uids;
-    let real_refused = real != LEAVE && real != uids.real && real != uids.effective;
-    let effective_refused = effective != LEAVE && !uids.has(effective);
-    if (real_refused || effective_refused) && !old.has(CAP_SETUID) {
-        return Outcome::refused(EPERM, before);
-    }
-    uids.real = given(real, uids.real);
-    uids.effective = given(effective, uids.effective);
-    if real != LEAVE || effective != LEAVE && effective != old.uids.real {
-        uids.saved = uids.effective;
-    }
-    with_ids(before, uids)
-}
-
-fn setresuid(on: Switches, before: &Thread, real: u32, effective: u32, saved: u32) -> Outcome {
-    let old = &before.credentials;
-    let mut uids = old.uids;
-    let is_refused = [real, effective, saved].into_iter().any(|id| id != LEAVE && !uids.has(id));
-    if is_refused && !old.has(CAP_SETUID) {
-        return Outcome::refused(EPERM, before);
-    }
-    uids.real = given(real, uids.real);
-    uids.effective = given(effective, uids.effective);
-    uids.saved = given(saved, uids.saved);
-    // An effective ID that is given and is not the filesystem ID is a change to the kernel.
-    let changes = uids != old.uids || effective != LEAVE && effective != old.uids.filesystem;
-    if !changes && on.on(SetresuidWithoutChange) {
-        return Outcome::done(0, *before);
-    }
-    with_ids(before, uids)
-}
-
-fn given(operand: u32, old: u32) -> u32 {
-    if operand == LEAVE {
-        old
+    let is_of_users = step.call <= SETFSUID;
+    let (ids, capability, without_change) = if is_of_users {
+        (old.uids, CAP_SETUID, SetresuidWithoutChange)
     } else {
-        operand
-    }
-}
-
-// The filesystem ID follows the effective one; then the paper's rules 1 to 3.
-fn with_ids(before: &Thread, mut uids: Ids) -> Outcome {
-    let old = &before.credentials;
-    uids.filesystem = uids.effective;
-    with(before, |new| {
-        new.uids = uids;
-        if old.is_secure(SECBIT_NO_SETUID_FIXUP) {
-            return;
-        }
-        if old.uids.has(0) && !uids.has(0) {
-            new.ambient = 0;
-            if !old.is_secure(SECBIT_KEEP_CAPS) {
-                new.permitted = 0;
-                new.effective = 0;
-            }
-        }
-        match (old.uids.effective, uids.effective) {
-            (0, 1..) => new.effective = 0,
-            (1.., 0) => new.effective = new.permitted,
-            _ => {}
-        }
-    })
-}
-
-// The paper's rule 4. A refusal answers as a change does, with the old ID.
-fn setfsuid(before: &Thread, id: u32) -> Outcome {
-    let old = &before.credentials;
-    let was = old.uids.filesystem;
-    let is_allowed = id != LEAVE && (old.uids.has(id) || id == was || old.has(CAP_SETUID));
+        (old.gids, CAP_SETGID, SetresgidWithoutChange)
+    };
+    let any = old.has(capability);
+    let [a, b, c] = [step.a, step.b, step.c].map(|id| id as u32);
+    let next = match step.call {
+        SETUID | SETGID => set(ids, any, a),
+        SETREUID | SETREGID => set_two(ids, any, a, b),
+        SETRESUID | SETRESGID => set_three(ids, any, [a, b, c], on.on(without_change)),
+        _ => Some(set_filesystem(ids, any, a)),
+    };
+    let Some(next) = next else { return Outcome::refused(EPERM, before) };
     let mut outcome = with(before, |new| {
-        if !is_allowed {
-            return;
-        }
-        new.uids.filesystem = id;
-        match (was, id) {
-            _ if old.is_secure(SECBIT_NO_SETUID_FIXUP) => {}
-            (0, 1..) => new.effective &= !FILESYSTEM_SET,
-            (1.., 0) => new.effective |= new.permitted & FILESYSTEM_SET,
-            _ => {}
+        if is_of_users {
+            new.uids = next;
+            fix_up(old, new, step.call);
+        } else {
+            new.gids = next;
         }
     });
-    outcome.value = u64::from(was);
+    if matches!(step.call, SETFSUID | SETFSGID) {
+        outcome.value = u64::from(ids.filesystem);
+    }
     outcome
+}
+
+// The paper's rules 1 to 4 after an ID call. setfsuid changes none of the IDs that the first three look at.
+fn fix_up(old: &Credentials, new: &mut Credentials, call: u32) {
+    if old.is_secure(SECBIT_NO_SETUID_FIXUP) {
+        return;
+    }
+    if old.uids.has(0) && !new.uids.has(0) {
+        new.ambient = 0;
+        if !old.is_secure(SECBIT_KEEP_CAPS) {
+            new.permitted = 0;
+            new.effective = 0;
+        }
+    }
+    match (old.uids.effective, new.uids.effective) {
+        (0, 1..) => new.effective = 0,
+        (1.., 0) => new.effective = new.permitted,
+        _ => {}
+    }
+    match (old.uids.filesystem, new.uids.filesystem) {
+        _ if call != SETFSUID => {}
+        (0, 1..) => new.effective &= !FILESYSTEM_SET,
+        (1.., 0) => new.effective |= new.permitted & FILESYSTEM_SET,
+        _ => {}
+    }
 }

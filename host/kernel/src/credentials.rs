@@ -1,8 +1,9 @@
-//! What a thread carries: the eleven fields of a sheet, and beside them the group IDs, of which the paper does not speak but the kernel does.
+//! What a thread carries: the fifteen fields of a sheet, and beside them a supplementary group, of which the paper does not speak but the kernel does.
 
 use std::fmt::Write;
 
 /// The capabilities that decide something here, by the header's names.
+pub const CAP_SETGID: u32 = 6;
 pub const CAP_SETUID: u32 = 7;
 pub const CAP_SETPCAP: u32 = 8;
 pub const CAP_SYS_PTRACE: u32 = 19;
@@ -45,10 +46,15 @@ impl Ids {
     }
 }
 
-/// The eleven fields of a sheet, in its order.
+/// The keys of four IDs on a sheet, in the order of [`Ids`].
+const UID_KEYS: [&str; 4] = ["ruid", "euid", "suid", "fsuid"];
+const GID_KEYS: [&str; 4] = ["rgid", "egid", "sgid", "fsgid"];
+
+/// The fifteen fields of a sheet, in its order.
 #[derive(Clone, Copy, Debug, Default, PartialEq, Eq)]
 pub struct Credentials {
     pub uids: Ids,
+    pub gids: Ids,
     pub permitted: u64,
     pub inheritable: u64,
     pub effective: u64,
@@ -72,9 +78,11 @@ impl Credentials {
     /// The sheet. Securebits above ff have no sheet.
     pub fn sheet(&self) -> String {
         let mut text = String::new();
-        let Ids { real, effective, saved, filesystem } = self.uids;
-        for (key, id) in [("ruid", real), ("euid", effective), ("suid", saved), ("fsuid", filesystem)] {
-            let _ = writeln!(text, "{key}={id}");
+        for (keys, ids) in [(UID_KEYS, self.uids), (GID_KEYS, self.gids)] {
+            let Ids { real, effective, saved, filesystem } = ids;
+            for (key, id) in keys.into_iter().zip([real, effective, saved, filesystem]) {
+                let _ = writeln!(text, "{key}={id}");
+            }
         }
         for (key, set) in [
             ("permitted", self.permitted),
@@ -89,14 +97,18 @@ impl Credentials {
         text
     }
 
-    /// Reads the eleven lines of a sheet, or says nothing where they are not a sheet's.
+    /// Reads the fifteen lines of a sheet, or says nothing where they are not a sheet's.
     pub fn from_lines<'a>(lines: &mut impl Iterator<Item = &'a str>) -> Option<Credentials> {
         let mut value = |key: &str| lines.next()?.strip_prefix(key)?.strip_prefix('=');
-        let mut id = |key: &str| value(key)?.parse().ok();
-        let uids = Ids { real: id("ruid")?, effective: id("euid")?, saved: id("suid")?, filesystem: id("fsuid")? };
+        let mut ids = |keys: [&str; 4]| {
+            let [real, effective, saved, filesystem] = keys.map(|key| value(key)?.parse().ok());
+            Some(Ids { real: real?, effective: effective?, saved: saved?, filesystem: filesystem? })
+        };
+        let (uids, gids) = (ids(UID_KEYS)?, ids(GID_KEYS)?);
         let mut set = |key: &str| u64::from_str_radix(value(key)?, 16).ok();
         Some(Credentials {
             uids,
+            gids,
             permitted: set("permitted")?,
             inheritable: set("inheritable")?,
             effective: set("effective")?,
@@ -112,14 +124,13 @@ impl Credentials {
 #[derive(Clone, Copy, Debug, Default, PartialEq, Eq)]
 pub struct Thread {
     pub credentials: Credentials,
-    pub gids: Ids,
     pub member: Option<u32>,
 }
 
 impl Thread {
     /// Whether the kernel counts the thread into the group: by its filesystem group ID or a supplementary group.
     pub fn is_in_group(&self, group: u32) -> bool {
-        self.gids.filesystem == group || self.member == Some(group)
+        self.credentials.gids.filesystem == group || self.member == Some(group)
     }
 }
 
@@ -142,7 +153,7 @@ impl Outcome {
         Outcome { code, value: 0, after: *before }
     }
 
-    /// Whether both agree in all that the paper speaks of: code, value and the eleven fields.
+    /// Whether both agree in all that the paper speaks of: code, value and the fifteen fields.
     pub fn agrees(&self, other: &Outcome) -> bool {
         (self.code, self.value, self.after.credentials) == (other.code, other.value, other.after.credentials)
     }
@@ -156,6 +167,7 @@ mod tests {
     fn a_sheet_reads_back() {
         let credentials = Credentials {
             uids: Ids { real: 0, effective: 1000, saved: 4294967294, filesystem: 7 },
+            gids: Ids { real: 4294967294, effective: 100, saved: 0, filesystem: 8 },
             permitted: FULL,
             inheritable: 0x2000,
             effective: 0x80,

@@ -42,6 +42,8 @@ departures! {
     NoNewPrivsCutsRoot "no-new-privs-cuts-root",
     /// Where there is a gain to cut or an ID changes, no-new-privs sets the effective ID to the real one.
     NoNewPrivsResetsEffectiveId "no-new-privs-resets-effective-id",
+    /// In the same event it sets the effective group to the real one.
+    NoNewPrivsResetsEffectiveGroup "no-new-privs-resets-effective-group",
     /// Set-ID bits count in a traced launch.
     TracedHonoursSetId "traced-honours-set-id",
     /// The attribute counts in a traced launch.
@@ -52,6 +54,8 @@ departures! {
     TracedCutsRoot "traced-cuts-root",
     /// Where such a launch gains or changes an ID, and the thread has no SETUID, the effective ID becomes the real one.
     TracedResetsEffectiveId "traced-resets-effective-id",
+    /// In the same event the effective group becomes the real one: this too depends on SETUID.
+    TracedResetsEffectiveGroup "traced-resets-effective-group",
     /// An attribute's bits above 40 are dropped.
     AttributeHighBitsMasked "attribute-bits-above-40-masked",
     /// Other bits of an attribute's first word are ignored.
@@ -76,6 +80,8 @@ departures! {
     UnusedOperandIgnored "unused-operand-ignored",
     /// setresuid that changes none of its three IDs leaves the filesystem ID.
     SetresuidWithoutChange "setresuid-without-change",
+    /// setresgid that changes none of its three IDs leaves the filesystem group.
+    SetresgidWithoutChange "setresgid-without-change",
 }
 
 /// Which departures are switched on.

@@ -16,12 +16,17 @@ const SETUID_ALONE: u64 = 1 << 7;
 const SYS_RAWIO: u64 = 1 << 17;
 
 fn plan(name: &str, credentials: Credentials, steps: Vec<Step>) -> Plan {
-    Plan { name: name.to_owned(), start: Thread { credentials, gids: plain_groups(), member: None }, steps }
+    Plan { name: name.to_owned(), start: Thread { credentials, member: None }, steps }
+}
+
+// The start of the paper's cases "unless said".
+fn user() -> Credentials {
+    Credentials { uids: Ids::all(USER), gids: Ids::all(USER), bounding: FULL, ..Credentials::default() }
 }
 
 /// The paper's cases, some of two plans.
 pub fn cases() -> Vec<Plan> {
-    let user = Credentials { uids: Ids::all(USER), bounding: FULL, ..Credentials::default() };
+    let user = user();
     let root = Credentials { uids: Ids::all(ROOT), ..user };
     let with =
         |set: u64, ambient: u64| Credentials { permitted: set, inheritable: set, effective: set, ambient, ..user };
@@ -62,7 +67,7 @@ pub fn cases() -> Vec<Plan> {
 
 /// The points of decision 23 in which the kernel does what was decided, each as one plan. For the others see `witnesses`.
 pub fn points() -> Vec<Plan> {
-    let user = Credentials { uids: Ids::all(USER), bounding: FULL, ..Credentials::default() };
+    let user = user();
     let real_root = Credentials { uids: Ids { real: ROOT, ..Ids::all(USER) }, ..user };
     let effective_root = Credentials { uids: Ids { real: USER, ..Ids::all(ROOT) }, ..user };
     let ambient = Credentials { permitted: NET_RAW, inheritable: NET_RAW, ambient: NET_RAW, ..user };
@@ -92,13 +97,7 @@ pub fn points() -> Vec<Plan> {
 
 /// Every value of the securebits as a start: read, kept over an ID change, and left by a launch.
 pub fn securebits() -> Vec<Plan> {
-    let root = Credentials {
-        uids: Ids::all(ROOT),
-        permitted: FULL,
-        effective: FULL,
-        bounding: FULL,
-        ..Credentials::default()
-    };
+    let root = Credentials { uids: Ids::all(ROOT), permitted: FULL, effective: FULL, ..user() };
     let from = |securebits: u32| {
         let steps = vec![
             Step::new(GET_SECUREBITS),
@@ -145,7 +144,7 @@ fn parse(text: &str) -> Option<(Credentials, Vec<Step>)> {
     Some((start, steps))
 }
 
-/// Cuts a plan's start to what the machine has, and gives its launches groups where they have none. Says whether the start had to be cut.
+/// Cuts a plan's start to what the machine has. Says whether it had to be cut.
 pub fn fit(plan: &mut Plan, permitted: u64, bounding: u64) -> bool {
     let start = &mut plan.start.credentials;
     let before = *start;
@@ -154,8 +153,5 @@ pub fn fit(plan: &mut Plan, permitted: u64, bounding: u64) -> bool {
     start.permitted &= permitted;
     start.effective &= start.permitted;
     start.ambient &= start.permitted & start.inheritable;
-    for (place, step) in plan.steps.iter_mut().enumerate().filter(|(_, step)| step.setting.group == 0) {
-        step.setting.group = Step::fresh_group(place);
-    }
     before != plan.start.credentials
 }

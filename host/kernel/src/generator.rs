@@ -10,14 +10,14 @@ use crate::random::Random;
 use crate::step::*;
 
 const LONGEST: u64 = 8;
-const IDS: [u32; 6] = [0, 0, 1000, 1001, 1002, u32::MAX - 1];
+const USERS: [u32; 6] = [0, 0, 1000, 1001, 1002, u32::MAX - 1];
+const GROUPS: [u32; 6] = [0, 1000, 2000, 2001, MEMBER, u32::MAX - 1];
+
+/// A group that some threads are in besides their own.
+const MEMBER: u32 = 3000;
 
 /// The capabilities that decide whether a call is allowed.
-const DECIDING: u64 = 1 << CAP_SETUID | 1 << CAP_SETPCAP | 1 << CAP_SYS_PTRACE;
-
-/// A group that some threads are in besides their own, and one that a thread's filesystem group can be apart at.
-const MEMBER: u32 = 3000;
-const APART: u32 = 3001;
+const DECIDING: u64 = 1 << CAP_SETGID | 1 << CAP_SETUID | 1 << CAP_SETPCAP | 1 << CAP_SYS_PTRACE;
 
 /// Makes plans within what the machine has.
 pub struct Generator<'a> {
@@ -33,14 +33,14 @@ impl Generator<'_> {
         let start = self.start();
         let mut thread = start;
         let mut steps = Vec::new();
-        for place in 0..1 + self.random.below(LONGEST) {
+        for _ in 0..1 + self.random.below(LONGEST) {
             // Securebits above ff have no sheet, and the library can say nothing of what follows: the plan ends soon.
             let has_sheet = thread.credentials.securebits <= SECBITS_OF_THE_PAPER;
             if !has_sheet && self.random.chance(30) {
                 break;
             }
             let step = if has_sheet {
-                self.step(&thread, place as usize)
+                self.step(&thread)
             } else {
                 Step::with(SET_SECUREBITS, self.securebits(&thread.credentials), 0, 0)
             };
@@ -76,7 +76,8 @@ impl Generator<'_> {
             _ => 0,
         };
         let credentials = Credentials {
-            uids: self.ids(),
+            uids: self.ids(&USERS),
+            gids: self.ids(&GROUPS),
             permitted,
             inheritable,
             effective,
@@ -85,20 +86,16 @@ impl Generator<'_> {
             securebits,
             nnp: self.random.chance(20),
         };
-        let mut gids = plain_groups();
-        if self.random.chance(10) {
-            gids.filesystem = APART;
-        }
         let member = self.random.chance(40).then_some(MEMBER);
-        Thread { credentials, gids, member }
+        Thread { credentials, member }
     }
 
-    fn ids(&mut self) -> Ids {
-        let id = self.random.pick(&IDS);
+    fn ids(&mut self, among: &[u32]) -> Ids {
+        let id = self.random.pick(among);
         if self.random.chance(35) {
             return Ids::all(id);
         }
-        let [real, effective, saved, filesystem] = [(); 4].map(|()| self.random.pick(&IDS));
+        let [real, effective, saved, filesystem] = [(); 4].map(|()| self.random.pick(among));
         let filesystem = if self.random.chance(50) { effective } else { filesystem };
         Ids { real, effective, saved, filesystem }
     }
@@ -127,14 +124,14 @@ impl Generator<'_> {
         }
     }
 
-    fn step(&mut self, thread: &Thread, place: usize) -> Step {
+    fn step(&mut self, thread: &Thread) -> Step {
         let old = &thread.credentials;
         let can_raise = old.permitted & old.inheritable != 0 && !old.is_secure(SECBIT_NO_CAP_AMBIENT_RAISE);
         let mut step = match self.random.below(100) {
-            0..=39 => return self.launch(thread, place),
+            0..=39 => return self.launch(thread),
             // A call that is sure to be refused is made less often.
-            49..=51 | 67..=70 if !old.has(CAP_SETPCAP) => return self.launch(thread, place),
-            53..=56 if !can_raise => return self.launch(thread, place),
+            49..=51 | 67..=70 if !old.has(CAP_SETPCAP) => return self.launch(thread),
+            53..=56 if !can_raise => return self.launch(thread),
             40..=48 => self.capset(old),
             49..=52 => Step::with(BOUNDING_DROP, self.capability(old.bounding), 0, 0),
             53..=57 => Step::with(AMBIENT_RAISE, self.capability(old.permitted & old.inheritable), 0, 0),
@@ -143,10 +140,10 @@ impl Generator<'_> {
                 let likely = self.random.pick(&[old.bounding, old.ambient]);
                 Step::with(call, self.capability(likely), 0, 0)
             }
-            67..=73 => Step::with(SET_SECUREBITS, self.securebits(old), 0, 0),
-            74..=76 => Step::with(SET_KEEP_CAPS, self.random.pick(&[0, 1, 1, 1, 2, u64::MAX]), 0, 0),
-            77 => Step::with(SET_NO_NEW_PRIVS, self.random.pick(&[1, 1, 1, 0, 2, 1 << 32 | 1]), 0, 0),
-            78..=81 => Step::new(self.random.pick(&[AMBIENT_CLEAR, GET_SECUREBITS, GET_KEEP_CAPS, GET_NO_NEW_PRIVS])),
+            67..=72 => Step::with(SET_SECUREBITS, self.securebits(old), 0, 0),
+            73 | 74 => Step::with(SET_KEEP_CAPS, self.random.pick(&[0, 1, 1, 1, 2, u64::MAX]), 0, 0),
+            75 => Step::with(SET_NO_NEW_PRIVS, self.random.pick(&[1, 1, 1, 0, 2, 1 << 32 | 1]), 0, 0),
+            76..=78 => Step::new(self.random.pick(&[AMBIENT_CLEAR, GET_SECUREBITS, GET_KEEP_CAPS, GET_NO_NEW_PRIVS])),
             _ => self.id_call(old),
         };
         if self.random.chance(3) {
@@ -156,24 +153,22 @@ impl Generator<'_> {
         }
         match self.random.below(200) {
             0 => step.attribute = version_2(0, 0, false),
-            1 => step.call = self.random.pick(&[0, 19, 20, 99]),
+            1 => step.call = self.random.pick(&[0, 23, 24, 99]),
             _ => {}
         }
         step
     }
 
-    fn launch(&mut self, thread: &Thread, place: usize) -> Step {
-        let uids = thread.credentials.uids;
+    fn launch(&mut self, thread: &Thread) -> Step {
+        let Credentials { uids, gids, .. } = thread.credentials;
         let flags = if self.random.chance(30) { 0 } else { self.random.below(16) };
         let owner = self.random.pick(&[0, 0, uids.effective, uids.effective, uids.real, 1000, 1001, u32::MAX - 1]);
+        let group = self.random.pick(&[0, gids.effective, gids.effective, gids.filesystem, MEMBER, 2000, u32::MAX - 1]);
         let mut step = if self.random.chance(15) {
             let number = self.random.below(self.image.files.len() as u64) as u32;
             self.image.launch(number, flags)
         } else {
-            let mut step = Step::launch(owner, flags, &self.attribute(&thread.credentials));
-            let groups = [Step::fresh_group(place), thread.gids.effective, thread.gids.filesystem, MEMBER];
-            step.setting.group = self.random.pick(&groups);
-            step
+            Step::launch(owner, flags, &self.attribute(&thread.credentials)).of_group(group)
         };
         if self.random.chance(40) {
             step.setting.tracer = Tracer::Seized;
@@ -181,7 +176,7 @@ impl Generator<'_> {
         match self.random.below(100) {
             0 => step.b |= NO_FILE_CAPS,
             1 => step.b |= 32,
-            2 => step.c = 1,
+            2 => step.c = self.random.pick(&[u64::from(LEAVE), step.c + (1 << 32)]),
             3 => step.a += 1 << 32,
             _ => {}
         }
@@ -255,24 +250,26 @@ impl Generator<'_> {
     }
 
     fn id_call(&mut self, old: &Credentials) -> Step {
-        let Ids { real, effective, saved, filesystem } = old.uids;
+        let (ids, among, [set, set_two, set_three, set_filesystem]) =
+            if self.random.chance(50) { (old.uids, USERS, USER_ID_CALLS) } else { (old.gids, GROUPS, GROUP_ID_CALLS) };
+        let Ids { real, effective, saved, filesystem } = ids;
         let mut id = || match self.random.below(20) {
             0..=9 => u64::from(self.random.pick(&[real, effective, saved, filesystem])),
-            10..=13 => u64::from(self.random.pick(&IDS)),
-            14 => u64::from(self.random.pick(&IDS)) | (1 + self.random.below(2)) << 32,
+            10..=13 => u64::from(self.random.pick(&among)),
+            14 => u64::from(self.random.pick(&among)) | (1 + self.random.below(2)) << 32,
             _ => u64::from(LEAVE),
         };
         let (a, b, c) = (id(), id(), id());
         let leave = u64::from(LEAVE);
         match self.random.below(6) {
-            0 => Step::with(SETUID, a, 0, 0),
-            1 => Step::with(SETREUID, a, b, 0),
-            2 | 3 => Step::with(SETRESUID, a, b, c),
+            0 => Step::with(set, a, 0, 0),
+            1 => Step::with(set_two, a, b, 0),
+            2 | 3 => Step::with(set_three, a, b, c),
             // Nothing new for the real and the saved ID.
             4 if self.random.chance(50) => {
-                Step::with(SETRESUID, self.random.pick(&[leave, u64::from(real)]), leave, u64::from(saved))
+                Step::with(set_three, self.random.pick(&[leave, u64::from(real)]), leave, u64::from(saved))
             }
-            _ => Step::with(SETFSUID, a, 0, 0),
+            _ => Step::with(set_filesystem, a, 0, 0),
         }
     }
 }

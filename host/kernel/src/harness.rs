@@ -106,6 +106,7 @@ fn thread(numbers: &mut impl Iterator<Item = u64>) -> Option<Thread> {
     let mut next = || numbers.next();
     let credentials = Credentials {
         uids,
+        gids,
         permitted: next()?,
         inheritable: next()?,
         effective: next()?,
@@ -114,26 +115,25 @@ fn thread(numbers: &mut impl Iterator<Item = u64>) -> Option<Thread> {
         securebits: next()? as u32,
         nnp: next()? != 0,
     };
-    Some(Thread { credentials, gids, member: None })
+    Some(Thread { credentials, member: None })
 }
 
 fn plan_lines(plan: &Plan) -> String {
-    let Thread { credentials, gids, member } = &plan.start;
+    let Thread { credentials, member } = &plan.start;
+    let Credentials { uids, gids, permitted, inheritable, effective, bounding, ambient, securebits, nnp } = credentials;
     let mut text = format!("plan {:x}\n", plan.steps.len());
-    for Ids { real, effective, saved, filesystem } in [&credentials.uids, gids] {
+    for Ids { real, effective, saved, filesystem } in [uids, gids] {
         let _ = write!(text, "{real:x} {effective:x} {saved:x} {filesystem:x} ");
     }
-    let Credentials { permitted, inheritable, effective, bounding, ambient, securebits, nnp, .. } = credentials;
-    let _ = write!(text, "{:x} {permitted:x} {inheritable:x} {effective:x} ", member.unwrap_or(u32::MAX));
-    let _ = writeln!(text, "{bounding:x} {ambient:x} {securebits:x} {:x}", u8::from(*nnp));
+    let _ = write!(text, "{permitted:x} {inheritable:x} {effective:x} {bounding:x} {ambient:x} ");
+    let _ = writeln!(text, "{securebits:x} {:x} {:x}", u8::from(*nnp), member.unwrap_or(u32::MAX));
     for step in &plan.steps {
         let tracer = match step.setting.tracer {
             _ if step.call != EXECVE || !step.flagged(TRACED) => 0,
             Tracer::Asked => 1,
             Tracer::Seized => 2,
         };
-        let _ =
-            write!(text, "{:x} {:x} {:x} {:x} {tracer:x} {:x} ", step.call, step.a, step.b, step.c, step.setting.group);
+        let _ = write!(text, "{:x} {:x} {:x} {:x} {tracer:x} ", step.call, step.a, step.b, step.c);
         // The attribute of a file of the image is there already.
         let attribute = if step.setting.image.is_some() { &[] } else { &step.attribute[..] };
         let _ = writeln!(text, "{:x} {}", step.setting.image.unwrap_or(u32::MAX), attribute_field(attribute));

@@ -1,4 +1,4 @@
-//! The files of the ext4 image: attributes that setxattr(2) refuses, each with an owner. chown would take the attribute away, so owner and group
+//! The files of the ext4 image: attributes that setxattr(2) refuses, each with an owner and a group. chown would take the attribute away, so these
 //! are fixed.
 
 use crate::attribute::{from_words, is_settable};
@@ -20,12 +20,12 @@ pub struct Image {
 
 const OWNERS: [u32; 3] = [0, 1000, 1001];
 
-/// The groups of the files begin here: no thread starts in one, and each file has its own.
-const FIRST_GROUP: u32 = 5000;
+/// Taken in turn, so that an attribute is seen with several: one more than there are owners.
+const GROUPS: [u32; 4] = [0, 2000, 2001, 5000];
 
-/// NET_RAW; SETUID, SETPCAP and SYS_PTRACE; all of the low word but capability 24, which a machine may lack.
+/// NET_RAW; SETGID, SETUID, SETPCAP and SYS_PTRACE; all of the low word but capability 24, which a machine may lack.
 const NET_RAW: u32 = 1 << 13;
-const DECIDING: u32 = 1 << 7 | 1 << 8 | 1 << 19;
+const DECIDING: u32 = 1 << 6 | 1 << 7 | 1 << 8 | 1 << 19;
 const LOW: u32 = 0xfeff_ffff;
 
 fn attributes() -> Vec<Vec<u8>> {
@@ -70,48 +70,42 @@ impl Image {
     /// The fixed list, each attribute with each owner, and whatever the given plans need beside it.
     pub fn new(plans: &[Plan]) -> Image {
         let mut image = Image { files: Vec::new() };
+        let mut groups = GROUPS.into_iter().cycle();
         for attribute in attributes() {
-            OWNERS.into_iter().for_each(|owner| image.add(owner, &attribute));
+            for (owner, group) in OWNERS.into_iter().zip(&mut groups) {
+                image.files.push(File { owner, group, attribute: attribute.clone() });
+            }
         }
         for step in plans.iter().flat_map(|plan| &plan.steps) {
-            if needs_image(step) {
-                image.add(step.a as u32, &step.attribute);
+            if needs_image(step) && image.number(step).is_none() {
+                let attribute = step.attribute.clone();
+                image.files.push(File { owner: step.a as u32, group: step.c as u32, attribute });
             }
         }
         image
     }
 
-    fn add(&mut self, owner: u32, attribute: &[u8]) {
-        if self.number(owner, attribute).is_none() {
-            let group = FIRST_GROUP + self.files.len() as u32;
-            self.files.push(File { owner, group, attribute: attribute.to_vec() });
-        }
-    }
-
-    fn number(&self, owner: u32, attribute: &[u8]) -> Option<u32> {
-        let place = self.files.iter().position(|file| file.owner == owner && file.attribute == attribute);
-        place.map(|number| number as u32)
+    // The number of the file that a launch is of.
+    fn number(&self, step: &Step) -> Option<u32> {
+        let is_it = |file: &File| {
+            (u64::from(file.owner), u64::from(file.group), &file.attribute) == (step.a, step.c, &step.attribute)
+        };
+        self.files.iter().position(is_it).map(|number| number as u32)
     }
 
     /// A launch of a file of the image.
     pub fn launch(&self, number: u32, flags: u64) -> Step {
         let file = &self.files[number as usize];
-        let mut step = Step::launch(file.owner, flags, &file.attribute);
+        let mut step = Step::launch(file.owner, flags, &file.attribute).of_group(file.group);
         step.setting.image = Some(number);
-        step.setting.group = file.group;
         step.setting.attached_without_bytes = file.attribute.is_empty();
         step
     }
 
-    /// The same launch with a file of the image, where it needs one.
+    /// Gives a launch that needs one its file of the image.
     pub fn furnish(&self, step: &mut Step) {
-        if !needs_image(step) {
-            return;
-        }
-        if let Some(number) = self.number(step.a as u32, &step.attribute) {
-            let tracer = step.setting.tracer;
-            *step = self.launch(number, step.b);
-            step.setting.tracer = tracer;
+        if needs_image(step) {
+            step.setting.image = self.number(step);
         }
     }
 

@@ -19,12 +19,12 @@ pub fn launch(on: Switches, before: &Thread, step: &Step) -> Outcome {
     }
 
     let mut new = *before;
-    let set_id = if ignores_set_id(on, old, step) { 0 } else { step.b & (SET_USER_ID | SET_GROUP_ID) };
+    let set_id = set_id_in_force(on, old, step);
     if set_id & SET_USER_ID != 0 {
         new.credentials.uids.effective = step.a as u32;
     }
     if set_id & SET_GROUP_ID != 0 {
-        new.gids.effective = step.setting.group;
+        new.credentials.gids.effective = step.c as u32;
     }
 
     let is_root = counts_as_root(&new.credentials, file.attached);
@@ -37,7 +37,7 @@ pub fn launch(on: Switches, before: &Thread, step: &Step) -> Outcome {
     }
 
     follow(&mut new.credentials.uids);
-    follow(&mut new.gids);
+    follow(&mut new.credentials.gids);
     if file.attached || changes || counts_unchanged(on, before, step, set_id) {
         new.credentials.ambient = 0;
     }
@@ -47,8 +47,14 @@ pub fn launch(on: Switches, before: &Thread, step: &Step) -> Outcome {
     Outcome::done(0, new)
 }
 
-fn ignores_set_id(on: Switches, old: &Credentials, step: &Step) -> bool {
-    step.flagged(NOSUID) || old.nnp || step.flagged(TRACED) && !on.on(TracedHonoursSetId)
+// Those of the two set-ID bits that are in force.
+fn set_id_in_force(on: Switches, old: &Credentials, step: &Step) -> u64 {
+    let is_ignored = step.flagged(NOSUID) || old.nnp || step.flagged(TRACED) && !on.on(TracedHonoursSetId);
+    if is_ignored {
+        0
+    } else {
+        step.b & (SET_USER_ID | SET_GROUP_ID)
+    }
 }
 
 fn ignores_attribute(on: Switches, old: &Credentials, step: &Step) -> bool {
@@ -70,7 +76,7 @@ fn counts_as_root(new: &Credentials, attached: bool) -> bool {
 fn changes_ids(on: Switches, before: &Thread, new: &Thread, set_id: u64) -> bool {
     let asks_group = set_id & SET_GROUP_ID != 0 || on.on(FilesystemGroupApart);
     new.credentials.uids.effective != before.credentials.uids.effective
-        || asks_group && !before.is_in_group(new.gids.effective)
+        || asks_group && !before.is_in_group(new.credentials.gids.effective)
 }
 
 // The kernel's way with a launch that is not safe: done, but with no more than there was before.
@@ -86,11 +92,13 @@ fn cut(on: Switches, before: &Thread, step: &Step, is_root: bool, new: &mut Thre
     if old.nnp && on.on(by_nnp) || is_watched && on.on(by_tracer) {
         new.credentials.permitted &= old.permitted;
     }
-    let resets = old.nnp && on.on(NoNewPrivsResetsEffectiveId)
-        || is_watched && !old.has(CAP_SETUID) && on.on(TracedResetsEffectiveId);
-    if resets {
+    // SETUID decides for the group too: SETGID is not asked for.
+    let resets = |by_nnp, by_tracer| old.nnp && on.on(by_nnp) || is_watched && !old.has(CAP_SETUID) && on.on(by_tracer);
+    if resets(NoNewPrivsResetsEffectiveId, TracedResetsEffectiveId) {
         new.credentials.uids.effective = old.uids.real;
-        new.gids.effective = new.gids.real;
+    }
+    if resets(NoNewPrivsResetsEffectiveGroup, TracedResetsEffectiveGroup) {
+        new.credentials.gids.effective = old.gids.real;
     }
 }
 
@@ -103,8 +111,9 @@ fn follow(ids: &mut Ids) {
 // "Launching, d" counts a set-ID bit also where the kernel sees no change.
 fn counts_unchanged(on: Switches, before: &Thread, step: &Step, set_id: u64) -> bool {
     let own_id = set_id & SET_USER_ID != 0 && step.a as u32 == before.credentials.uids.effective;
-    let known_group = set_id & SET_GROUP_ID != 0 && before.is_in_group(step.setting.group);
+    let group = step.c as u32;
+    let known_group = set_id & SET_GROUP_ID != 0 && before.is_in_group(group);
     let by_group =
-        if step.setting.group == before.gids.effective { SetGroupIdToOwnGroup } else { SetGroupIdToMemberGroup };
+        if group == before.credentials.gids.effective { SetGroupIdToOwnGroup } else { SetGroupIdToMemberGroup };
     own_id && !on.on(SetUserIdToOwnId) || known_group && !on.on(by_group)
 }

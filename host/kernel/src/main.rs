@@ -14,6 +14,7 @@ mod departures;
 mod fixed;
 mod generator;
 mod harness;
+mod id_calls;
 mod image;
 mod launching;
 mod prediction;

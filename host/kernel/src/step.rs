@@ -1,6 +1,6 @@
 //! A step of a plan: one call with its operands, and for a launch what the plan leaves open and the machine needs.
 
-use crate::credentials::Ids;
+use crate::credentials::LEAVE;
 use std::fmt::Write;
 
 /// The calls by their numbers.
@@ -22,9 +22,17 @@ pub const SETUID: u32 = 15;
 pub const SETREUID: u32 = 16;
 pub const SETRESUID: u32 = 17;
 pub const SETFSUID: u32 = 18;
+pub const SETGID: u32 = 19;
+pub const SETREGID: u32 = 20;
+pub const SETRESGID: u32 = 21;
+pub const SETFSGID: u32 = 22;
+
+/// The calls of user IDs and those of group IDs, which have the same rules.
+pub const USER_ID_CALLS: [u32; 4] = [SETUID, SETREUID, SETRESUID, SETFSUID];
+pub const GROUP_ID_CALLS: [u32; 4] = [SETGID, SETREGID, SETRESGID, SETFSGID];
 
 /// The calls' names, by their numbers.
-pub const NAMES: [&str; 19] = [
+pub const NAMES: [&str; 23] = [
     "",
     "execve",
     "capset",
@@ -44,10 +52,14 @@ pub const NAMES: [&str; 19] = [
     "setreuid",
     "setresuid",
     "setfsuid",
+    "setgid",
+    "setregid",
+    "setresgid",
+    "setfsgid",
 ];
 
 /// How many of the operands a call uses, by its number.
-const OPERANDS: [usize; 19] = [0, 2, 3, 1, 1, 1, 1, 1, 0, 1, 0, 1, 0, 1, 0, 1, 2, 3, 1];
+const OPERANDS: [usize; 23] = [0, 3, 3, 1, 1, 1, 1, 1, 0, 1, 0, 1, 0, 1, 0, 1, 2, 3, 1, 1, 2, 3, 1];
 
 /// The flags of a launch.
 pub const SET_USER_ID: u64 = 1;
@@ -70,8 +82,6 @@ pub enum Tracer {
 #[derive(Clone, Copy, Debug, Default, PartialEq, Eq)]
 pub struct Setting {
     pub tracer: Tracer,
-    /// The file's group.
-    pub group: u32,
     /// The file's number in the image, for attributes that setxattr(2) refuses.
     pub image: Option<u32>,
     /// An attribute is attached and has no bytes, where the plan can only say that none is attached.
@@ -100,9 +110,14 @@ impl Step {
         Step { call, a, b, c, ..Step::default() }
     }
 
-    /// A launch of a file with that owner, those flags and that attribute.
+    /// A launch of a file of group 0 with that owner, those flags and that attribute.
     pub fn launch(owner: u32, flags: u64, attribute: &[u8]) -> Step {
         Step { attribute: attribute.to_vec(), ..Step::with(EXECVE, u64::from(owner), flags, 0) }
+    }
+
+    /// The same launch of a file of that group.
+    pub fn of_group(self, group: u32) -> Step {
+        Step { c: u64::from(group), ..self }
     }
 
     /// Whether the launch has all of these flags.
@@ -141,22 +156,17 @@ impl Step {
     /// Why the machine cannot be asked this step, if it cannot.
     pub fn not_run(&self) -> Option<&'static str> {
         match self.call {
-            0 | 19.. => Some("a number that is no call"),
-            EXECVE if self.a >= u64::from(u32::MAX) => Some("a launch of a file whose owner is no user ID"),
+            0 | 23.. => Some("a number that is no call"),
+            EXECVE if self.a >= u64::from(LEAVE) => Some("a launch of a file whose owner is no user ID"),
+            EXECVE if self.c >= u64::from(LEAVE) => Some("a launch of a file whose group is no group ID"),
             EXECVE if self.b > FLAGS => Some("a launch with a flag that is none"),
             EXECVE if self.b & NO_FILE_CAPS != 0 => {
                 Some("a launch under no_file_caps, which is an option of the kernel's start")
             }
-            EXECVE if self.c != 0 => Some("a launch with a third operand"),
             EXECVE => None,
             _ if !self.attribute.is_empty() => Some("an attribute in a call that is no launch"),
             _ => None,
         }
-    }
-
-    /// A group for the file at this place of a plan that no thread is in before, so that a set-group-ID bit changes the group.
-    pub fn fresh_group(place: usize) -> u32 {
-        2000 + place as u32
     }
 }
 
@@ -166,14 +176,6 @@ pub struct Plan {
     pub name: String,
     pub start: crate::credentials::Thread,
     pub steps: Vec<Step>,
-}
-
-/// The groups that a thread starts with unless a plan says otherwise.
-pub const GROUP: u32 = 100;
-
-/// The groups of a thread that has only [`GROUP`].
-pub fn plain_groups() -> Ids {
-    Ids::all(GROUP)
 }
 
 /// Lower-case hex digits, two to a byte.

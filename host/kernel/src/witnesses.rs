@@ -10,11 +10,12 @@ const NET_RAW: u64 = 1 << 13;
 /// One more than the last capability.
 const ABOVE: u64 = 41;
 
-/// The user, another one, a group that the thread is in besides its own, and a group that it is not in.
+/// The user and another one; the thread's group, another one, and one that the thread is in besides its own.
 const USER: u32 = 1000;
 const OTHER: u32 = 1001;
+const GROUP: u32 = 2000;
+const OTHER_GROUP: u32 = 2001;
 const MEMBER: u32 = 3000;
-const APART: u32 = 3001;
 
 /// The plans, one for each departure.
 pub fn witnesses() -> Vec<Plan> {
@@ -29,35 +30,49 @@ fn witness(departure: Departure) -> Plan {
         | AttributeVersion3OtherRoot
         | AttributeWithoutBytes => (user(), attribute(departure)),
         SetUserIdToOwnId | SetGroupIdToOwnGroup | SetGroupIdToMemberGroup | FilesystemGroupApart => ambient(departure),
-        NoNewPrivsReadsAttribute | NoNewPrivsCutsGain | NoNewPrivsCutsRoot | NoNewPrivsResetsEffectiveId => {
-            unsafe_launch(departure, 0)
-        }
+        NoNewPrivsReadsAttribute
+        | NoNewPrivsCutsGain
+        | NoNewPrivsCutsRoot
+        | NoNewPrivsResetsEffectiveId
+        | NoNewPrivsResetsEffectiveGroup => unsafe_launch(departure, 0),
         TracedHonoursSetId => (user(), seized(Step::launch(OTHER, TRACED | SET_USER_ID, &[]))),
         TracedReadsAttribute => (user(), seized(Step::launch(0, TRACED, &version_2(NET_RAW, 0, true)))),
-        TracedCutsGain | TracedCutsRoot | TracedResetsEffectiveId => unsafe_launch(departure, TRACED),
+        TracedCutsGain | TracedCutsRoot | TracedResetsEffectiveId | TracedResetsEffectiveGroup => {
+            unsafe_launch(departure, TRACED)
+        }
         CapsetHighBitsMasked => (user(), Step::with(CAPSET, 1 << ABOVE, 0, 0)),
         BoundingDropAsksFirst => (user(), Step::with(BOUNDING_DROP, ABOVE, 0, 0)),
         SecurebitsOfPrograms => (user(), Step::with(SET_SECUREBITS, 0x100, 0, 0)),
         SecurebitsUnknown => (user(), Step::with(SET_SECUREBITS, 0x1000, 0, 0)),
         WideIdCut => (user(), Step::with(SETUID, 1 << 32 | u64::from(USER), 0, 0)),
         UnusedOperandIgnored => (user(), Step::with(GET_SECUREBITS, 1, 0, 0)),
-        SetresuidWithoutChange => {
-            let mut start = user();
-            start.credentials.uids.filesystem = OTHER;
-            (start, Step::with(SETRESUID, u64::from(LEAVE), u64::from(LEAVE), u64::from(LEAVE)))
-        }
+        SetresuidWithoutChange | SetresgidWithoutChange => without_change(departure),
     };
     Plan { name: departure.name().to_owned(), start, steps: vec![step] }
 }
 
 fn user() -> Thread {
-    let credentials = Credentials { uids: Ids::all(USER), bounding: FULL, ..Credentials::default() };
-    Thread { credentials, gids: plain_groups(), member: None }
+    let credentials =
+        Credentials { uids: Ids::all(USER), gids: Ids::all(GROUP), bounding: FULL, ..Credentials::default() };
+    Thread { credentials, member: None }
 }
 
 fn seized(mut step: Step) -> Step {
     step.setting.tracer = Tracer::Seized;
     step
+}
+
+// Nothing given, and a filesystem ID that is not the effective one.
+fn without_change(departure: Departure) -> (Thread, Step) {
+    let mut start = user();
+    let call = if departure == SetresuidWithoutChange {
+        start.credentials.uids.filesystem = OTHER;
+        SETRESUID
+    } else {
+        start.credentials.gids.filesystem = OTHER_GROUP;
+        SETRESGID
+    };
+    (start, Step::with(call, u64::from(LEAVE), u64::from(LEAVE), u64::from(LEAVE)))
 }
 
 // An ambient capability and a launch that the kernel counts otherwise than the paper.
@@ -69,12 +84,12 @@ fn ambient(departure: Departure) -> (Thread, Step) {
     let mut step = Step::launch(USER, 0, &[]);
     match departure {
         SetUserIdToOwnId => step.b = SET_USER_ID,
-        SetGroupIdToOwnGroup => (step.b, step.setting.group) = (SET_GROUP_ID, GROUP),
+        SetGroupIdToOwnGroup => (step.b, step.c) = (SET_GROUP_ID, u64::from(GROUP)),
         SetGroupIdToMemberGroup => {
             start.member = Some(MEMBER);
-            (step.b, step.setting.group) = (SET_GROUP_ID, MEMBER);
+            (step.b, step.c) = (SET_GROUP_ID, u64::from(MEMBER));
         }
-        _ => start.gids.filesystem = APART,
+        _ => start.credentials.gids.filesystem = OTHER_GROUP,
     }
     (start, step)
 }
@@ -88,6 +103,10 @@ fn unsafe_launch(departure: Departure, flags: u64) -> (Thread, Step) {
         NoNewPrivsCutsRoot | TracedCutsRoot => start.credentials.uids = Ids::all(0),
         NoNewPrivsResetsEffectiveId | TracedResetsEffectiveId => {
             start.credentials.uids = Ids { real: USER, ..Ids::all(0) }
+        }
+        NoNewPrivsResetsEffectiveGroup | TracedResetsEffectiveGroup => {
+            start.credentials.uids = Ids::all(0);
+            start.credentials.gids = Ids { real: GROUP, ..Ids::all(OTHER_GROUP) };
         }
         NoNewPrivsReadsAttribute => {
             start.credentials.permitted = NET_RAW;
