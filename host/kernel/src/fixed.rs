@@ -1,5 +1,5 @@
 //! Plans that are run whatever the seed: the paper's cases 1 to 13 ("On the bench"), points that it leaves to the reader (docs/DECISIONS.md, 23),
-//! every value of the securebits, and the example plans.
+//! every value of the securebits, every choice of IDs for the ID calls, every way that a file's group can count, and the example plans.
 
 use crate::attribute::version_2;
 use crate::credentials::*;
@@ -109,6 +109,69 @@ pub fn securebits() -> Vec<Plan> {
         plan(&format!("securebits {securebits:02x}"), Credentials { securebits, ..root }, steps)
     };
     (0..=SECBITS_OF_THE_PAPER).map(from).collect()
+}
+
+/// Each ID call with every choice of operands among the four IDs, 0 and 4294967295, with wide IDs, and with operands that it does not use; with and
+/// without the capability; once for users and once for groups.
+pub fn id_calls() -> Vec<Plan> {
+    let apart = Ids { real: USER, effective: 1001, saved: 1002, filesystem: 1003 };
+    let able = Credentials { permitted: FULL, ..user() };
+    let of_users = (Credentials { uids: apart, ..able }, CAP_SETUID, USER_ID_CALLS);
+    let of_groups = (Credentials { gids: apart, ..able }, CAP_SETGID, GROUP_ID_CALLS);
+    let mut plans = Vec::new();
+    for (start, capability, calls) in [of_users, of_groups] {
+        for effective in [1 << capability, FULL & !(1 << capability)] {
+            for step in id_steps(calls, apart) {
+                let Step { call, a, b, c, .. } = step;
+                let name = format!("{} {a} {b} {c}, effective {effective:x}", NAMES[call as usize]);
+                plans.push(plan(&name, Credentials { effective, ..start }, vec![step]));
+            }
+        }
+    }
+    plans
+}
+
+fn id_steps([set, set_two, set_three, set_filesystem]: [u32; 4], ids: Ids) -> Vec<Step> {
+    let choices = [ids.real, ids.effective, ids.saved, ids.filesystem, ROOT, LEAVE].map(u64::from);
+    let mut steps = Vec::new();
+    for a in choices {
+        steps.extend([set, set_filesystem].map(|call| Step::with(call, a, 0, 0)));
+        for b in choices {
+            steps.push(Step::with(set_two, a, b, 0));
+            steps.extend(choices.map(|c| Step::with(set_three, a, b, c)));
+        }
+    }
+    let real = u64::from(ids.real);
+    for wide in [real, u64::from(LEAVE)].map(|id| id | 1 << 32) {
+        steps.extend([set, set_filesystem].map(|call| Step::with(call, wide, 0, 0)));
+        steps.extend([(wide, real), (real, wide)].map(|(a, b)| Step::with(set_two, a, b, 0)));
+        let one_of_three = [(wide, real, real), (real, wide, real), (real, real, wide)];
+        steps.extend(one_of_three.map(|(a, b, c)| Step::with(set_three, a, b, c)));
+    }
+    for call in [set, set_two, set_filesystem] {
+        steps.push(Step::with(call, real, real, 1));
+    }
+    steps
+}
+
+/// Launches of a file of each group that a thread has, of one that it is in besides and of one that it is not in, by every combination of flags, with
+/// and without no-new-privs, from a thread that is in its effective group and from one that is not.
+pub fn groups() -> Vec<Plan> {
+    let together = Ids { real: 2000, effective: 2001, saved: 2002, filesystem: 2001 };
+    let apart = Ids { filesystem: 2003, ..together };
+    let (member, outside) = (3000, 3001);
+    let ambient = Credentials { permitted: NET_RAW, inheritable: NET_RAW, ambient: NET_RAW, ..user() };
+    let mut plans = Vec::new();
+    for (gids, nnp) in [(together, false), (together, true), (apart, false), (apart, true)] {
+        let start = Thread { credentials: Credentials { gids, nnp, ..ambient }, member: Some(member) };
+        for group in [gids.real, gids.effective, gids.saved, apart.filesystem, member, outside] {
+            for flags in 0..NO_FILE_CAPS {
+                let name = format!("groups {gids:?}, no-new-privs {nnp}, launch of group {group}, flags {flags}");
+                plans.push(Plan { name, start, steps: vec![Step::launch(1001, flags, &[]).of_group(group)] });
+            }
+        }
+    }
+    plans
 }
 
 /// The example plans in a directory and the directories in it, and how many of its plans are none: broken texts, and starts that are not valid.

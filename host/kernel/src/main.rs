@@ -110,7 +110,15 @@ fn run(options: &Options, tag: &str) -> io::Result<Tally> {
     let mut tally = Tally::default();
     let (examples, none) = fixed::examples(Path::new(&options.examples))?;
     (0..none).for_each(|_| tally.not_run("an example that is no plan or has no valid start"));
-    let lists = [fixed::cases(), fixed::points(), witnesses(), fixed::securebits(), examples];
+    let lists = [
+        fixed::cases(),
+        fixed::points(),
+        witnesses(),
+        fixed::securebits(),
+        fixed::id_calls(),
+        fixed::groups(),
+        examples,
+    ];
     let mut fixed: Vec<Plan> = lists.into_iter().flatten().collect();
 
     let mut harness = Harness::new(&options.harness, tag)?;
