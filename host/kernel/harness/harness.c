@@ -102,19 +102,21 @@ static void read_start(struct state *start, uint32_t *member)
     }
 }
 
-/* The call and its operands; then, meant for launches, the tracer, the file's number in the image or ffffffff, and the attribute. */
+/* The call and its operands; then, meant for launches, the tracer, whether the file's group may not execute it, the file's number in the image
+ * or ffffffff, and the attribute. */
 static void read_step(struct order *order, struct file *file)
 {
     int found = scanf("%" SCNx32 " %" SCNx64 " %" SCNx64 " %" SCNx64, &order->call, &order->operands[0], &order->operands[1], &order->operands[2]);
-    found += scanf("%" SCNx32 " %" SCNx32, &order->tracer, &file->image);
-    if (found != 6) {
+    uint32_t without_group_execution;
+    found += scanf("%" SCNx32 " %" SCNx32 " %" SCNx32, &order->tracer, &without_group_execution, &file->image);
+    if (found != 7) {
         malformed("a step");
     }
     read_attribute(file);
     uint64_t flags = order->operands[1];
     file->owner = (uint32_t)order->operands[0];
     file->group = (uint32_t)order->operands[2];
-    file->mode = 0755 | (flags & SET_USER_ID ? 04000 : 0) | (flags & SET_GROUP_ID ? 02000 : 0);
+    file->mode = (without_group_execution ? 0745 : 0755) | (flags & SET_USER_ID ? 04000 : 0) | (flags & SET_GROUP_ID ? 02000 : 0);
     file->nosuid = (flags & NOSUID) != 0;
 }
 

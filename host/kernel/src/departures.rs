@@ -32,6 +32,8 @@ departures! {
     SetGroupIdToOwnGroup "set-group-id-to-own-group",
     /// So does one for another group that the thread is in.
     SetGroupIdToMemberGroup "set-group-id-to-member-group",
+    /// A set-group-ID bit of a file that its group may not execute is ignored.
+    SetGroupIdWithoutGroupExecution "set-group-id-without-group-execution",
     /// A thread that is not in its own effective group counts as changing an ID in every launch.
     FilesystemGroupApart "filesystem-group-apart",
     /// The attribute counts under no-new-privs.

@@ -173,6 +173,9 @@ impl Generator<'_> {
         if self.random.chance(40) {
             step.setting.tracer = Tracer::Seized;
         }
+        // A thread in the file's group could not launch it then.
+        let is_outside = step.setting.image.is_none() && !thread.is_in_group(group);
+        step.setting.without_group_execution = is_outside && self.random.chance(10);
         match self.random.below(100) {
             0 => step.b |= NO_FILE_CAPS,
             1 => step.b |= 32,

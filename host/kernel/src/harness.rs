@@ -133,7 +133,9 @@ fn plan_lines(plan: &Plan) -> String {
             Tracer::Asked => 1,
             Tracer::Seized => 2,
         };
-        let _ = write!(text, "{:x} {:x} {:x} {:x} {tracer:x} ", step.call, step.a, step.b, step.c);
+        let without_group_execution = u8::from(step.setting.without_group_execution);
+        let _ = write!(text, "{:x} {:x} {:x} {:x} ", step.call, step.a, step.b, step.c);
+        let _ = write!(text, "{tracer:x} {without_group_execution:x} ");
         // The attribute of a file of the image is there already.
         let attribute = if step.setting.image.is_some() { &[] } else { &step.attribute[..] };
         let _ = writeln!(text, "{:x} {}", step.setting.image.unwrap_or(u32::MAX), attribute_field(attribute));

@@ -47,14 +47,13 @@ pub fn launch(on: Switches, before: &Thread, step: &Step) -> Outcome {
     Outcome::done(0, new)
 }
 
-// Those of the two set-ID bits that are in force.
+// Those of the two set-ID bits that are in force. On a file that its group may not execute the set-group-ID bit stands for locking (inode(7)).
 fn set_id_in_force(on: Switches, old: &Credentials, step: &Step) -> u64 {
-    let is_ignored = step.flagged(NOSUID) || old.nnp || step.flagged(TRACED) && !on.on(TracedHonoursSetId);
-    if is_ignored {
-        0
-    } else {
-        step.b & (SET_USER_ID | SET_GROUP_ID)
+    if step.flagged(NOSUID) || old.nnp || step.flagged(TRACED) && !on.on(TracedHonoursSetId) {
+        return 0;
     }
+    let stands_for_locking = step.setting.without_group_execution && on.on(SetGroupIdWithoutGroupExecution);
+    step.b & if stands_for_locking { SET_USER_ID } else { SET_USER_ID | SET_GROUP_ID }
 }
 
 fn ignores_attribute(on: Switches, old: &Credentials, step: &Step) -> bool {

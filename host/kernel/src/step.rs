@@ -86,6 +86,8 @@ pub struct Setting {
     pub image: Option<u32>,
     /// An attribute is attached and has no bytes, where the plan can only say that none is attached.
     pub attached_without_bytes: bool,
+    /// The file's group may not execute it.
+    pub without_group_execution: bool,
 }
 
 /// One call of a plan.

@@ -30,6 +30,7 @@ fn witness(departure: Departure) -> Plan {
         | AttributeVersion3OtherRoot
         | AttributeWithoutBytes => (user(), attribute(departure)),
         SetUserIdToOwnId | SetGroupIdToOwnGroup | SetGroupIdToMemberGroup | FilesystemGroupApart => ambient(departure),
+        SetGroupIdWithoutGroupExecution => (user(), without_group_execution()),
         NoNewPrivsReadsAttribute
         | NoNewPrivsCutsGain
         | NoNewPrivsCutsRoot
@@ -59,6 +60,12 @@ fn user() -> Thread {
 
 fn seized(mut step: Step) -> Step {
     step.setting.tracer = Tracer::Seized;
+    step
+}
+
+fn without_group_execution() -> Step {
+    let mut step = Step::launch(0, SET_GROUP_ID, &[]).of_group(OTHER_GROUP);
+    step.setting.without_group_execution = true;
     step
 }
 
