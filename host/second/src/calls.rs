@@ -1,11 +1,11 @@
-//! The eighteen calls and what comes back from them.
+//! The twenty-two calls and what comes back from them.
 
 use crate::capability::bit;
 use crate::credentials::Credentials;
 use crate::decode::{decode, Call, Step};
 use crate::refusal::Refusal;
 use crate::securebits::{self, SECBIT_KEEP_CAPS};
-use crate::{ids, launch, sets};
+use crate::{group_ids, launch, sets, user_ids};
 
 /// What a call comes to.
 #[derive(Clone, Debug, PartialEq, Eq)]
@@ -38,7 +38,7 @@ fn attempt(before: &Credentials, step: &Step) -> Result<Answer, Refusal> {
 
 fn credentials_after(before: &Credentials, call: &Call) -> Result<Credentials, Refusal> {
     match *call {
-        Call::Execve { owner, flags, attribute } => launch::execve(before, owner, flags, attribute),
+        Call::Execve { owner, group, flags, attribute } => launch::execve(before, owner, group, flags, attribute),
         Call::Capset { permitted, inheritable, effective } => sets::capset(before, permitted, inheritable, effective),
         Call::DropBounding(capability) => sets::drop_bounding(before, capability),
         Call::RaiseAmbient(capability) => sets::raise_ambient(before, capability),
@@ -47,10 +47,14 @@ fn credentials_after(before: &Credentials, call: &Call) -> Result<Credentials, R
         Call::SetSecurebits(securebits) => securebits::set_securebits(before, securebits),
         Call::SetKeepCaps(keep) => securebits::set_keep_caps(before, keep),
         Call::SetNoNewPrivs => Ok(Credentials { nnp: true, ..before.clone() }),
-        Call::Setuid(uid) => ids::setuid(before, uid),
-        Call::Setreuid(ruid, euid) => ids::setreuid(before, ruid, euid),
-        Call::Setresuid(ruid, euid, suid) => ids::setresuid(before, ruid, euid, suid),
-        Call::Setfsuid(fsuid) => Ok(ids::setfsuid(before, fsuid)),
+        Call::Setuid(uid) => user_ids::setuid(before, uid),
+        Call::Setreuid(ruid, euid) => user_ids::setreuid(before, ruid, euid),
+        Call::Setresuid(ruid, euid, suid) => user_ids::setresuid(before, ruid, euid, suid),
+        Call::Setfsuid(fsuid) => Ok(user_ids::setfsuid(before, fsuid)),
+        Call::Setgid(gid) => group_ids::setgid(before, gid),
+        Call::Setregid(rgid, egid) => group_ids::setregid(before, rgid, egid),
+        Call::Setresgid(rgid, egid, sgid) => group_ids::setresgid(before, rgid, egid, sgid),
+        Call::Setfsgid(fsgid) => Ok(group_ids::setfsgid(before, fsgid)),
         Call::ReadBounding(_)
         | Call::IsAmbientSet(_)
         | Call::GetSecurebits
@@ -59,7 +63,7 @@ fn credentials_after(before: &Credentials, call: &Call) -> Result<Credentials, R
     }
 }
 
-/// The value of a done call; setfsuid answers the old filesystem ID whether or not it changes it.
+/// The value of a done call; setfsuid and setfsgid answer the old filesystem ID whether or not they change it.
 fn value_read(before: &Credentials, call: &Call) -> u64 {
     match *call {
         Call::ReadBounding(capability) => u64::from(before.bounding & bit(capability) != 0),
@@ -68,6 +72,7 @@ fn value_read(before: &Credentials, call: &Call) -> u64 {
         Call::GetKeepCaps => u64::from(before.is_secure(SECBIT_KEEP_CAPS)),
         Call::GetNoNewPrivs => u64::from(before.nnp),
         Call::Setfsuid(_) => u64::from(before.fsuid),
+        Call::Setfsgid(_) => u64::from(before.fsgid),
         _ => 0,
     }
 }

@@ -11,7 +11,7 @@ const NO_ID: u64 = u32::MAX as u64;
 /// One step of a plan.
 #[derive(Clone, Debug, PartialEq, Eq)]
 pub struct Step {
-    /// The call's number; 1 to 18 are calls.
+    /// The call's number; 1 to 22 are calls.
     pub call: u8,
     /// First operand; 0 where the call does not use it, as with the other two.
     pub a: u64,
@@ -25,7 +25,7 @@ pub struct Step {
 
 /// A call, its operands checked.
 pub(crate) enum Call<'s> {
-    Execve { owner: u32, flags: u64, attribute: &'s [u8] },
+    Execve { owner: u32, group: u32, flags: u64, attribute: &'s [u8] },
     Capset { permitted: u64, inheritable: u64, effective: u64 },
     DropBounding(u32),
     ReadBounding(u32),
@@ -43,6 +43,10 @@ pub(crate) enum Call<'s> {
     Setreuid(Option<u32>, Option<u32>),
     Setresuid(Option<u32>, Option<u32>, Option<u32>),
     Setfsuid(Option<u32>),
+    Setgid(u32),
+    Setregid(Option<u32>, Option<u32>),
+    Setresgid(Option<u32>, Option<u32>, Option<u32>),
+    Setfsgid(Option<u32>),
 }
 
 /// The call of a step, or the refusal that its numbers earn before anything is tried.
@@ -50,7 +54,7 @@ pub(crate) fn decode(step: &Step) -> Result<Call<'_>, Refusal> {
     check_unused(step)?;
     let &Step { a, b, c, .. } = step;
     Ok(match step.call {
-        1 => Call::Execve { owner: user_id(a)?, flags: launch_flags(b)?, attribute: &step.attr },
+        1 => Call::Execve { owner: id(a)?, group: id(c)?, flags: launch_flags(b)?, attribute: &step.attr },
         2 => Call::Capset {
             permitted: capability_set(a)?,
             inheritable: capability_set(b)?,
@@ -68,10 +72,14 @@ pub(crate) fn decode(step: &Step) -> Result<Call<'_>, Refusal> {
         12 => Call::GetKeepCaps,
         13 if a == 1 => Call::SetNoNewPrivs,
         14 => Call::GetNoNewPrivs,
-        15 => Call::Setuid(user_id(a)?),
+        15 => Call::Setuid(id(a)?),
         16 => Call::Setreuid(optional_id(a)?, optional_id(b)?),
         17 => Call::Setresuid(optional_id(a)?, optional_id(b)?, optional_id(c)?),
         18 => Call::Setfsuid(optional_id(a)?),
+        19 => Call::Setgid(id(a)?),
+        20 => Call::Setregid(optional_id(a)?, optional_id(b)?),
+        21 => Call::Setresgid(optional_id(a)?, optional_id(b)?, optional_id(c)?),
+        22 => Call::Setfsgid(optional_id(a)?),
         _ => return Err(Refusal::BadOperand),
     })
 }
@@ -80,8 +88,8 @@ pub(crate) fn decode(step: &Step) -> Result<Call<'_>, Refusal> {
 fn check_unused(step: &Step) -> Result<(), Refusal> {
     let used = match step.call {
         8 | 10 | 12 | 14 => 0,
-        1 | 16 => 2,
-        2 | 17 => 3,
+        16 | 20 => 2,
+        1 | 2 | 17 | 21 => 3,
         _ => 1,
     };
     let unused_are_zero = [step.a, step.b, step.c].iter().skip(used).all(|&operand| operand == 0);
@@ -125,7 +133,8 @@ pub(crate) fn switch(operand: u64) -> Result<bool, Refusal> {
     }
 }
 
-fn user_id(operand: u64) -> Result<u32, Refusal> {
+/// A user or group ID.
+fn id(operand: u64) -> Result<u32, Refusal> {
     match u32::try_from(operand) {
         Ok(id) if id <= MAX_ID => Ok(id),
         _ => Err(Refusal::BadOperand),
@@ -136,6 +145,6 @@ fn optional_id(operand: u64) -> Result<Option<u32>, Refusal> {
     if operand == NO_ID {
         Ok(None)
     } else {
-        user_id(operand).map(Some)
+        id(operand).map(Some)
     }
 }

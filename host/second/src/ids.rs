@@ -1,113 +1,82 @@
-//! The calls that change user IDs, and what a change does to the capability sets.
+//! The rules of the ID calls, which are the same for user IDs and for group IDs; what becomes of capability sets is no
+//! part of them.
+//!
+//! A thread is `able` if it has the capability for IDs of the kind at hand: CAP_SETUID or CAP_SETGID.
 
-use crate::capability::{CAP_SETUID, FILESYSTEM_SET};
-use crate::credentials::Credentials;
 use crate::refusal::Refusal;
-use crate::securebits::{SECBIT_KEEP_CAPS, SECBIT_NO_SETUID_FIXUP};
 
-/// Call 15: with CAP_SETUID all four IDs change, without it the effective and the filesystem ID.
-pub(crate) fn setuid(before: &Credentials, uid: u32) -> Result<Credentials, Refusal> {
-    let mut after = before.clone();
-    if before.has(CAP_SETUID) {
-        after.ruid = uid;
-        after.suid = uid;
-    } else if uid != before.ruid && uid != before.suid {
+/// A thread's four IDs of one kind, user or group.
+#[derive(Clone, Copy)]
+pub(crate) struct Ids {
+    pub(crate) real: u32,
+    pub(crate) effective: u32,
+    pub(crate) saved: u32,
+    pub(crate) filesystem: u32,
+}
+
+/// Calls 15 and 19: an able thread changes all four IDs, another one the effective and the filesystem ID.
+pub(crate) fn setid(before: Ids, able: bool, id: u32) -> Result<Ids, Refusal> {
+    let mut after = before;
+    if able {
+        after.real = id;
+        after.saved = id;
+    } else if id != before.real && id != before.saved {
         return Err(Refusal::NotPermitted);
     }
-    after.euid = uid;
-    after.fsuid = uid;
-    fix_capabilities(before, &mut after);
+    after.effective = id;
+    after.filesystem = id;
     Ok(after)
 }
 
-/// Call 16; an ID that is not given stays.
-pub(crate) fn setreuid(before: &Credentials, ruid: Option<u32>, euid: Option<u32>) -> Result<Credentials, Refusal> {
-    check_each(before, &[ruid], &[before.ruid, before.euid])?;
-    check_each(before, &[euid], &[before.ruid, before.euid, before.suid])?;
+/// Calls 16 and 20; an ID that is not given stays.
+pub(crate) fn setreid(before: Ids, able: bool, real: Option<u32>, effective: Option<u32>) -> Result<Ids, Refusal> {
+    check_each(able, &[real], &[before.real, before.effective])?;
+    check_each(able, &[effective], &[before.real, before.effective, before.saved])?;
 
-    let mut after = before.clone();
-    after.ruid = ruid.unwrap_or(before.ruid);
-    after.euid = euid.unwrap_or(before.euid);
-    after.fsuid = after.euid;
-    if ruid.is_some() || euid.is_some_and(|given| given != before.ruid) {
-        after.suid = after.euid;
+    let mut after = before;
+    after.real = real.unwrap_or(before.real);
+    after.effective = effective.unwrap_or(before.effective);
+    after.filesystem = after.effective;
+    if real.is_some() || effective.is_some_and(|given| given != before.real) {
+        after.saved = after.effective;
     }
-    fix_capabilities(before, &mut after);
     Ok(after)
 }
 
-/// Call 17; an ID that is not given stays, but the filesystem ID becomes the effective one all the same.
-pub(crate) fn setresuid(
-    before: &Credentials,
-    ruid: Option<u32>,
-    euid: Option<u32>,
-    suid: Option<u32>,
-) -> Result<Credentials, Refusal> {
-    check_each(before, &[ruid, euid, suid], &[before.ruid, before.euid, before.suid])?;
+/// Calls 17 and 21; an ID that is not given stays, but the filesystem ID becomes the effective one all the same.
+pub(crate) fn setresid(
+    before: Ids,
+    able: bool,
+    real: Option<u32>,
+    effective: Option<u32>,
+    saved: Option<u32>,
+) -> Result<Ids, Refusal> {
+    check_each(able, &[real, effective, saved], &[before.real, before.effective, before.saved])?;
 
-    let mut after = before.clone();
-    after.ruid = ruid.unwrap_or(before.ruid);
-    after.euid = euid.unwrap_or(before.euid);
-    after.suid = suid.unwrap_or(before.suid);
-    after.fsuid = after.euid;
-    fix_capabilities(before, &mut after);
+    let mut after = before;
+    after.real = real.unwrap_or(before.real);
+    after.effective = effective.unwrap_or(before.effective);
+    after.saved = saved.unwrap_or(before.saved);
+    after.filesystem = after.effective;
     Ok(after)
 }
 
-/// Call 18: never refused; an ID that is not allowed, or none, changes nothing.
-pub(crate) fn setfsuid(before: &Credentials, fsuid: Option<u32>) -> Credentials {
-    let mut after = before.clone();
-    let Some(fsuid) = fsuid else { return after };
-    let own = [before.ruid, before.euid, before.suid, before.fsuid];
-    if before.has(CAP_SETUID) || own.contains(&fsuid) {
-        after.fsuid = fsuid;
-        fix_filesystem_capabilities(before, &mut after);
+/// Calls 18 and 22: never refused; an ID that is not allowed, or none, changes nothing.
+pub(crate) fn setfsid(before: Ids, able: bool, filesystem: Option<u32>) -> Ids {
+    let mut after = before;
+    let Some(given) = filesystem else { return after };
+    let own = [before.real, before.effective, before.saved, before.filesystem];
+    if able || own.contains(&given) {
+        after.filesystem = given;
     }
     after
 }
 
-/// Without CAP_SETUID each ID given must be one of those allowed.
-fn check_each(before: &Credentials, given: &[Option<u32>], allowed: &[u32]) -> Result<(), Refusal> {
-    if before.has(CAP_SETUID) || given.iter().flatten().all(|id| allowed.contains(id)) {
+/// A thread that is not able may give only the IDs allowed.
+fn check_each(able: bool, given: &[Option<u32>], allowed: &[u32]) -> Result<(), Refusal> {
+    if able || given.iter().flatten().all(|id| allowed.contains(id)) {
         Ok(())
     } else {
         Err(Refusal::NotPermitted)
     }
-}
-
-/// ID changes, 1 to 3, for the calls that change the real, effective and saved IDs.
-fn fix_capabilities(before: &Credentials, after: &mut Credentials) {
-    if before.is_secure(SECBIT_NO_SETUID_FIXUP) {
-        return;
-    }
-    if has_root_id(before) && !has_root_id(after) {
-        after.ambient = 0;
-        if !before.is_secure(SECBIT_KEEP_CAPS) {
-            after.permitted = 0;
-            after.effective = 0;
-        }
-    }
-    match (before.euid, after.euid) {
-        (0, 0) => {}
-        (0, _) => after.effective = 0,
-        (_, 0) => after.effective = after.permitted,
-        _ => {}
-    }
-}
-
-/// ID changes, 4, for setfsuid alone: it leaves the other IDs, so 1 to 3 have nothing to do there.
-fn fix_filesystem_capabilities(before: &Credentials, after: &mut Credentials) {
-    if before.is_secure(SECBIT_NO_SETUID_FIXUP) {
-        return;
-    }
-    match (before.fsuid, after.fsuid) {
-        (0, 0) => {}
-        (0, _) => after.effective &= !FILESYSTEM_SET,
-        (_, 0) => after.effective |= FILESYSTEM_SET & after.permitted,
-        _ => {}
-    }
-}
-
-fn has_root_id(credentials: &Credentials) -> bool {
-    [credentials.ruid, credentials.euid, credentials.suid].contains(&0)
 }

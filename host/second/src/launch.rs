@@ -3,6 +3,7 @@
 use crate::attribute::{self, FileCapabilities};
 use crate::capability::{is_within, FULL_SET};
 use crate::credentials::Credentials;
+use crate::ids::Ids;
 use crate::refusal::Refusal;
 use crate::securebits::{SECBIT_KEEP_CAPS, SECBIT_NOROOT};
 
@@ -40,13 +41,20 @@ impl File {
     }
 }
 
-/// Runs a file of this owner, with these flags and attribute bytes.
-pub(crate) fn execve(before: &Credentials, owner: u32, flags: u64, attribute: &[u8]) -> Result<Credentials, Refusal> {
+/// Runs a file of this owner and group, with these flags and attribute bytes.
+pub(crate) fn execve(
+    before: &Credentials,
+    owner: u32,
+    group: u32,
+    flags: u64,
+    attribute: &[u8],
+) -> Result<Credentials, Refusal> {
     let file = File::in_force(before, flags, attribute)?;
     check_all_obtained(before, file.attribute)?;
 
     let mut after = before.clone();
-    change_ids(&mut after, owner, file.set_user_id);
+    after.set_user_ids(launched_ids(before.user_ids(), file.set_user_id, owner));
+    after.set_group_ids(launched_ids(before.group_ids(), file.set_group_id, group));
     let counted = counted_capabilities(&after, file.attribute);
     change_sets(&mut after, counted, file.is_privileged());
     after.securebits &= !SECBIT_KEEP_CAPS;
@@ -63,16 +71,20 @@ fn check_all_obtained(before: &Credentials, attribute: Option<FileCapabilities>)
     Ok(())
 }
 
-/// Launching, b: the capability rules for ID changes have no part in this.
-fn change_ids(after: &mut Credentials, owner: u32, set_user_id: bool) {
-    if set_user_id {
-        after.euid = owner;
+/// Launching, b, for the user IDs and the file's owner as for the group IDs and the file's group. The capability rules
+/// for ID changes have no part in this.
+fn launched_ids(before: Ids, set_id: bool, file_id: u32) -> Ids {
+    let mut after = before;
+    if set_id {
+        after.effective = file_id;
     }
-    after.suid = after.euid;
-    after.fsuid = after.euid;
+    after.saved = after.effective;
+    after.filesystem = after.effective;
+    after
 }
 
-/// Launching, c: the file's capabilities as they count for a thread that has its new IDs already.
+/// Launching, c: the file's capabilities as they count for a thread that has its new IDs already; only its user IDs
+/// are asked.
 fn counted_capabilities(after: &Credentials, attribute: Option<FileCapabilities>) -> FileCapabilities {
     let mut file = attribute.unwrap_or_default();
     let own_sets_count = attribute.is_some() && after.ruid != 0 && after.euid == 0;

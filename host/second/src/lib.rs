@@ -1,5 +1,5 @@
-//! A plain model of one Linux thread's credentials: its user IDs, its five capability sets, its securebits and its
-//! no-new-privs flag, and what eighteen system calls do to them.
+//! A plain model of one Linux thread's credentials: its user IDs, its group IDs, its five capability sets, its
+//! securebits and its no-new-privs flag, and what twenty-two system calls do to them.
 //!
 //! [`perform`] answers one call; [`run_plan`] reads a plan as text, runs its steps in order and writes a report.
 //! [`read_sheet`] and [`write_sheet`] turn credentials alone from text into numbers and back, [`read_attribute`] and
@@ -11,6 +11,7 @@ mod calls;
 mod capability;
 mod credentials;
 mod decode;
+mod group_ids;
 mod ids;
 mod launch;
 mod plan;
@@ -20,6 +21,7 @@ mod report;
 mod securebits;
 mod sets;
 mod sheet;
+mod user_ids;
 mod written;
 
 pub use attribute::{read_attribute, write_attribute};

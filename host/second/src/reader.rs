@@ -57,10 +57,14 @@ struct Reader<'t> {
 impl Reader<'_> {
     fn sheet(&mut self) -> Result<Credentials, Malformed> {
         Ok(Credentials {
-            ruid: self.line("ruid=", user_id)?,
-            euid: self.line("euid=", user_id)?,
-            suid: self.line("suid=", user_id)?,
-            fsuid: self.line("fsuid=", user_id)?,
+            ruid: self.line("ruid=", id)?,
+            euid: self.line("euid=", id)?,
+            suid: self.line("suid=", id)?,
+            fsuid: self.line("fsuid=", id)?,
+            rgid: self.line("rgid=", id)?,
+            egid: self.line("egid=", id)?,
+            sgid: self.line("sgid=", id)?,
+            fsgid: self.line("fsgid=", id)?,
             permitted: self.line("permitted=", word)?,
             inheritable: self.line("inheritable=", word)?,
             effective: self.line("effective=", word)?,
@@ -137,8 +141,8 @@ fn hex_digit(byte: u8) -> Option<u8> {
     }
 }
 
-/// A user ID; 4294967295 can be written, but is not valid.
-fn user_id(value: &[u8]) -> Option<u32> {
+/// A user or group ID; 4294967295 can be written, but is not valid.
+fn id(value: &[u8]) -> Option<u32> {
     decimal(value)
 }
 

@@ -11,12 +11,16 @@ pub(crate) fn write_answer(report: &mut String, answer: &Answer) -> fmt::Result 
     writeln!(report, "value={:016x}", answer.value)
 }
 
-/// Adds the eleven lines of a sheet.
+/// Adds the fifteen lines of a sheet.
 pub(crate) fn write_sheet(report: &mut String, credentials: &Credentials) -> fmt::Result {
     writeln!(report, "ruid={}", credentials.ruid)?;
     writeln!(report, "euid={}", credentials.euid)?;
     writeln!(report, "suid={}", credentials.suid)?;
     writeln!(report, "fsuid={}", credentials.fsuid)?;
+    writeln!(report, "rgid={}", credentials.rgid)?;
+    writeln!(report, "egid={}", credentials.egid)?;
+    writeln!(report, "sgid={}", credentials.sgid)?;
+    writeln!(report, "fsgid={}", credentials.fsgid)?;
     writeln!(report, "permitted={:016x}", credentials.permitted)?;
     writeln!(report, "inheritable={:016x}", credentials.inheritable)?;
     writeln!(report, "effective={:016x}", credentials.effective)?;

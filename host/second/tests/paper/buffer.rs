@@ -35,11 +35,37 @@ fn longer() {
 
 #[test]
 fn refused_plans_leave_it() {
-    for text in ["", "noise", &SHEET.replace("ruid=1000", "ruid=4294967295"), &plan().replace("attr=", "attr=0")] {
+    for text in [
+        "",
+        "noise",
+        &SHEET.replace("ruid=1000", "ruid=4294967295"),
+        &SHEET.replace("rgid=1000", "rgid=4294967295"),
+        &plan().replace("attr=", "attr=0"),
+    ] {
         let mut buffer = vec![0xa5; 1000];
         assert!(!matches!(run_plan(text.as_bytes(), &mut buffer), Outcome::Report { .. }));
         assert!(buffer.iter().all(|&byte| byte == 0xa5));
     }
+}
+
+/// IDs and attribute as long as they can be, and a call of two digits that is refused with a code of two digits.
+fn longest_plan() -> (String, String) {
+    let sheet = SHEET.replace("=1000\n", "=4294967294\n");
+    let attr = "f".repeat(48);
+    let step = LAUNCH.replace("call=1\n", "call=99\n").replace("attr=", &format!("attr={attr}"));
+    (format!("{sheet}{}", step.repeat(256)), format!("{}{sheet}", "code=22\nvalue=0000000000000000\n".repeat(256)))
+}
+
+#[test]
+fn the_longest_plan_has_the_longest_report() {
+    let (plan, report) = longest_plan();
+    assert_eq!(plan.len(), 30_748);
+    let mut buffer = [0xa5; 8220];
+    assert_eq!(run_plan(plan.as_bytes(), &mut buffer), Outcome::Report { length: 8220 });
+    assert_eq!(buffer, report.as_bytes());
+    let mut buffer = [0xa5; 8219];
+    assert_eq!(run_plan(plan.as_bytes(), &mut buffer), Outcome::NoRoom);
+    assert_eq!(buffer, [0xa5; 8219]);
 }
 
 #[test]

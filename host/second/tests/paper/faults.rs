@@ -3,7 +3,7 @@
 use crate::helpers::*;
 use second::{run_plan, Outcome};
 
-/// Case 2's sheet with two steps, the second with the quoted attribute: 21 lines.
+/// Case 2's sheet with two steps, the second with the quoted attribute: 25 lines.
 fn plan() -> String {
     format!("{SHEET}{LAUNCH}{}", LAUNCH.replace("attr=", &format!("attr={QUOTED}")))
 }
@@ -32,7 +32,7 @@ fn cut_off_anywhere() {
     for end in 0..text.len() {
         let cut = &text[..end];
         let complete = cut.matches('\n').count();
-        if cut.ends_with('\n') && [11, 16].contains(&complete) {
+        if cut.ends_with('\n') && [15, 20].contains(&complete) {
             assert!(matches!(run(cut.as_bytes()).0, Outcome::Report { .. }));
         } else {
             assert_malformed(cut.as_bytes(), complete as u32 + 1);
@@ -89,14 +89,16 @@ fn a_doubled_line_is_a_fault_at_the_second() {
 #[test]
 fn a_missing_line_is_a_fault_where_it_should_stand() {
     // Without the last line the text ends there, and that is a fault there as well.
-    for number in 1..=21 {
+    for number in 1..=25 {
         assert_malformed(with_line(number, "").as_bytes(), number as u32);
     }
 }
 
 #[test]
 fn ids() {
-    for (number, key) in [(1, "ruid"), (2, "euid"), (3, "suid"), (4, "fsuid")] {
+    let user_ids = [(1, "ruid"), (2, "euid"), (3, "suid"), (4, "fsuid")];
+    let group_ids = [(5, "rgid"), (6, "egid"), (7, "sgid"), (8, "fsgid")];
+    for (number, key) in user_ids.into_iter().chain(group_ids) {
         for wrong in ["", "00", "01000", "4294967296", "10000000000", "18446744073709551616", "1e3", "3E8", "a"] {
             assert_malformed(with_line(number, &format!("{key}={wrong}\n")).as_bytes(), number as u32);
         }
@@ -111,8 +113,8 @@ fn ids() {
 
 #[test]
 fn sets_and_operands() {
-    let keys = [(5, "permitted"), (6, "inheritable"), (7, "effective"), (8, "bounding"), (9, "ambient")];
-    for (number, key) in keys.into_iter().chain([(13, "a"), (14, "b"), (15, "c"), (18, "a"), (19, "b"), (20, "c")]) {
+    let keys = [(9, "permitted"), (10, "inheritable"), (11, "effective"), (12, "bounding"), (13, "ambient")];
+    for (number, key) in keys.into_iter().chain([(17, "a"), (18, "b"), (19, "c"), (22, "a"), (23, "b"), (24, "c")]) {
         for wrong in ["", "0", "000000000000000", "00000000000000000", "000000000000000A", "000000000000000g"] {
             assert_malformed(with_line(number, &format!("{key}={wrong}\n")).as_bytes(), number as u32);
         }
@@ -122,23 +124,23 @@ fn sets_and_operands() {
 #[test]
 fn securebits_and_no_new_privs() {
     for wrong in ["", "0", "000", "0F", "+0", "0x"] {
-        assert_malformed(with_line(10, &format!("securebits={wrong}\n")).as_bytes(), 10);
+        assert_malformed(with_line(14, &format!("securebits={wrong}\n")).as_bytes(), 14);
     }
     for wrong in ["", "2", "00", "01", "true", "-"] {
-        assert_malformed(with_line(11, &format!("nnp={wrong}\n")).as_bytes(), 11);
+        assert_malformed(with_line(15, &format!("nnp={wrong}\n")).as_bytes(), 15);
     }
-    assert!(run(with_line(10, "securebits=ef\n").as_bytes()).1.contains("\nsecurebits=ef\n"));
-    assert!(run(with_line(11, "nnp=1\n").as_bytes()).1.ends_with("\nnnp=1\n"));
+    assert!(run(with_line(14, "securebits=ef\n").as_bytes()).1.contains("\nsecurebits=ef\n"));
+    assert!(run(with_line(15, "nnp=1\n").as_bytes()).1.ends_with("\nnnp=1\n"));
 }
 
 #[test]
 fn calls() {
     for wrong in ["", "00", "01", "100", "257", "4294967297", "a", "1.", "-1"] {
-        assert_malformed(with_line(12, &format!("call={wrong}\n")).as_bytes(), 12);
-        assert_malformed(with_line(17, &format!("call={wrong}\n")).as_bytes(), 17);
+        assert_malformed(with_line(16, &format!("call={wrong}\n")).as_bytes(), 16);
+        assert_malformed(with_line(21, &format!("call={wrong}\n")).as_bytes(), 21);
     }
-    for unknown in ["0", "19", "99"] {
-        let (_, report) = run(with_line(12, &format!("call={unknown}\n")).as_bytes());
+    for unknown in ["0", "23", "99"] {
+        let (_, report) = run(with_line(16, &format!("call={unknown}\n")).as_bytes());
         assert!(report.starts_with("code=22\nvalue=0000000000000000\ncode=0\n"));
     }
 }
@@ -146,15 +148,15 @@ fn calls() {
 #[test]
 fn attributes() {
     for wrong in ["0", "000", "0g", "0A", "0 ", QUOTED.trim_end_matches('0')] {
-        assert_malformed(with_line(16, &format!("attr={wrong}\n")).as_bytes(), 16);
+        assert_malformed(with_line(20, &format!("attr={wrong}\n")).as_bytes(), 20);
     }
     for digits in 0..60 {
-        let text = with_line(16, &format!("attr={}\n", "0".repeat(digits)));
+        let text = with_line(20, &format!("attr={}\n", "0".repeat(digits)));
         if digits <= 48 && digits % 2 == 0 {
             let expected = if digits == 0 { "code=0\n" } else { "code=60\n" };
             assert!(run(text.as_bytes()).1.starts_with(expected));
         } else {
-            assert_malformed(text.as_bytes(), 16);
+            assert_malformed(text.as_bytes(), 20);
         }
     }
 }
@@ -162,23 +164,23 @@ fn attributes() {
 #[test]
 fn text_past_the_last_step() {
     for noise in ["\n", "\r\n", " ", "\0", "x", "end\n", "ruid=1000\n", "code=0\n"] {
-        assert_malformed(format!("{}{noise}", plan()).as_bytes(), 22);
-        assert_malformed(format!("{SHEET}{noise}").as_bytes(), 12);
+        assert_malformed(format!("{}{noise}", plan()).as_bytes(), 26);
+        assert_malformed(format!("{SHEET}{noise}").as_bytes(), 16);
     }
 }
 
 #[test]
-fn a_257th_step_is_a_fault_at_line_1292() {
+fn a_257th_step_is_a_fault_at_line_1296() {
     let most = format!("{SHEET}{}", LAUNCH.repeat(256));
     let (outcome, report) = run(most.as_bytes());
     assert_eq!(outcome, Outcome::Report { length: 256 * 30 + SHEET.len() });
     assert_eq!(report, format!("{}{SHEET}", "code=0\nvalue=0000000000000000\n".repeat(256)));
     for more in [LAUNCH, "call=1\n", "c", "\n", "\0", "noise", &LAUNCH.repeat(3)] {
-        assert_malformed(format!("{most}{more}").as_bytes(), 1292);
+        assert_malformed(format!("{most}{more}").as_bytes(), 1296);
     }
-    assert_malformed(&most.as_bytes()[..most.len() - 1], 1291);
+    assert_malformed(&most.as_bytes()[..most.len() - 1], 1295);
     let faulty = most.replacen("call=1\n", "call=x\n", 1);
-    assert_malformed(format!("{faulty}{LAUNCH}").as_bytes(), 12);
+    assert_malformed(format!("{faulty}{LAUNCH}").as_bytes(), 16);
 }
 
 #[test]
@@ -201,7 +203,7 @@ fn megabytes_of_noise() {
     }
     let mut text = SHEET.as_bytes().to_vec();
     text.resize(4 << 20, b'\n');
-    assert_malformed(&text, 12);
+    assert_malformed(&text, 16);
 }
 
 #[test]
@@ -230,6 +232,6 @@ fn one_byte_changed_anywhere() {
 fn a_newline_inside_a_value_can_end_it_early() {
     assert_malformed(with_line(1, "ruid=1\n00\n").as_bytes(), 2);
     assert_malformed(with_line(1, "ruid=\n1000\n").as_bytes(), 1);
-    assert_malformed(with_line(21, "attr=01\n00\n").as_bytes(), 22);
-    assert_malformed(with_line(21, "attr=0\n10\n").as_bytes(), 21);
+    assert_malformed(with_line(25, "attr=01\n00\n").as_bytes(), 26);
+    assert_malformed(with_line(25, "attr=0\n10\n").as_bytes(), 25);
 }

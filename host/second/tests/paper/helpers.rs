@@ -4,6 +4,7 @@ use second::{perform, run_plan, Answer, Credentials, Outcome, Step};
 
 pub const FULL: u64 = 0x0000_01ff_ffff_ffff;
 
+pub const SETGID: u64 = 1 << 6;
 pub const SETUID: u64 = 1 << 7;
 pub const SETPCAP: u64 = 1 << 8;
 pub const NET_BIND_SERVICE: u64 = 1 << 10;
@@ -29,13 +30,17 @@ pub const LEAVE: u64 = 4_294_967_295;
 /// The quoted attribute: NET_RAW permitted, bit on.
 pub const QUOTED: &str = "0100000200200000000000000000000000000000";
 
-/// The start of the bench: IDs 1000, bounding set full, the rest empty.
+/// The start of the bench: user and group IDs 1000, bounding set full, the rest empty.
 pub fn user() -> Credentials {
     Credentials {
         ruid: 1000,
         euid: 1000,
         suid: 1000,
         fsuid: 1000,
+        rgid: 1000,
+        egid: 1000,
+        sgid: 1000,
+        fsgid: 1000,
         permitted: 0,
         inheritable: 0,
         effective: 0,
@@ -46,7 +51,7 @@ pub fn user() -> Credentials {
     }
 }
 
-/// As `user`, all IDs 0.
+/// As `user`, all user IDs 0.
 pub fn root() -> Credentials {
     with_ids(user(), 0, 0, 0, 0)
 }
@@ -61,20 +66,38 @@ pub fn ambient_user() -> Credentials {
     Credentials { permitted: NET_RAW, inheritable: NET_RAW, effective: NET_RAW, ambient: NET_RAW, ..user() }
 }
 
+/// The same with these user IDs.
 pub fn with_ids(credentials: Credentials, ruid: u32, euid: u32, suid: u32, fsuid: u32) -> Credentials {
     Credentials { ruid, euid, suid, fsuid, ..credentials }
 }
 
+/// The user IDs.
 pub fn ids(credentials: &Credentials) -> [u32; 4] {
     [credentials.ruid, credentials.euid, credentials.suid, credentials.fsuid]
+}
+
+/// The same with these group IDs.
+pub fn with_groups(credentials: Credentials, rgid: u32, egid: u32, sgid: u32, fsgid: u32) -> Credentials {
+    Credentials { rgid, egid, sgid, fsgid, ..credentials }
+}
+
+/// The group IDs.
+pub fn groups(credentials: &Credentials) -> [u32; 4] {
+    [credentials.rgid, credentials.egid, credentials.sgid, credentials.fsgid]
 }
 
 pub fn step(call: u8, a: u64, b: u64, c: u64) -> Step {
     Step { call, a, b, c, attr: Vec::new() }
 }
 
+/// The launch of a file of group 0.
 pub fn execve(owner: u64, flags: u64, attr: Vec<u8>) -> Step {
     Step { call: 1, a: owner, b: flags, c: 0, attr }
+}
+
+/// The launch of a file of this group.
+pub fn of_group(group: u64, launch: Step) -> Step {
+    Step { c: group, ..launch }
 }
 
 /// A version 2 attribute.
@@ -113,6 +136,10 @@ ruid=1000
 euid=1000
 suid=1000
 fsuid=1000
+rgid=1000
+egid=1000
+sgid=1000
+fsgid=1000
 permitted=0000000000002000
 inheritable=0000000000002000
 effective=0000000000002000
@@ -139,6 +166,10 @@ ruid=1000
 euid=1000
 suid=1000
 fsuid=1000
+rgid=1000
+egid=1000
+sgid=1000
+fsgid=1000
 permitted=0000000000002000
 inheritable=0000000000002000
 effective=0000000000002000

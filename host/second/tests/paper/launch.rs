@@ -62,6 +62,88 @@ fn b_saved_and_filesystem_ids_follow_in_every_launch() {
     assert_eq!(ids(&after(&before, &execve(4_294_967_294, SET_USER_ID, vec![])))[1..], [4_294_967_294; 3]);
 }
 
+/// Groups 1, 2, 3, 4 and user IDs that are other numbers.
+fn four_groups() -> Credentials {
+    with_groups(with_ids(user(), 11, 12, 13, 14), 1, 2, 3, 4)
+}
+
+/// The group IDs after the launch of a file of owner 8 and group 9.
+fn launched_groups(before: &Credentials, flags: u64, attr: Vec<u8>) -> [u32; 4] {
+    groups(&after(before, &of_group(9, execve(8, flags, attr))))
+}
+
+#[test]
+fn b_set_group_id_sets_the_effective_group_and_the_real_one_stays() {
+    assert_eq!(launched_groups(&four_groups(), SET_GROUP_ID, vec![]), [1, 9, 9, 9]);
+    for group in [0, 1, 2, 3, 4, 12, 4_294_967_294] {
+        let launched = after(&four_groups(), &of_group(group, execve(8, SET_GROUP_ID, vec![])));
+        let group = group as u32;
+        assert_eq!(groups(&launched), [1, group, group, group]);
+    }
+}
+
+#[test]
+fn b_saved_and_filesystem_groups_follow_in_every_launch() {
+    for group in [0, 9, 4_294_967_294] {
+        let launched = after(&four_groups(), &of_group(group, execve(8, 0, vec![])));
+        assert_eq!(launched, with_groups(with_ids(user(), 11, 12, 12, 12), 1, 2, 2, 2));
+    }
+    assert_eq!(launched_groups(&four_groups(), 0, attribute(NET_RAW, 0, true)), [1, 2, 2, 2]);
+    assert_eq!(launched_groups(&with_ids(four_groups(), 0, 0, 0, 0), 0, vec![]), [1, 2, 2, 2]);
+}
+
+#[test]
+fn b_each_set_id_bit_has_its_own_ids() {
+    let launched = |flags| after(&four_groups(), &of_group(9, execve(8, flags, vec![])));
+    let expected = with_groups(with_ids(user(), 11, 8, 8, 8), 1, 2, 2, 2);
+    assert_eq!(launched(SET_USER_ID), expected);
+    let expected = with_groups(with_ids(user(), 11, 12, 12, 12), 1, 9, 9, 9);
+    assert_eq!(launched(SET_GROUP_ID), expected);
+    let expected = with_groups(with_ids(user(), 11, 8, 8, 8), 1, 9, 9, 9);
+    assert_eq!(launched(SET_USER_ID | SET_GROUP_ID), expected);
+}
+
+#[test]
+fn b_set_group_id_is_ignored_under_no_new_privs_nosuid_and_traced() {
+    let nnp = Credentials { nnp: true, ..four_groups() };
+    for attr in [vec![], attribute(FULL, FULL, true), unreadable()] {
+        for others in [0, SET_USER_ID, NO_FILE_CAPS, SET_USER_ID | NO_FILE_CAPS] {
+            let flags = SET_GROUP_ID | others;
+            assert_eq!(launched_groups(&nnp, flags, attr.clone()), [1, 2, 2, 2]);
+            assert_eq!(launched_groups(&four_groups(), flags | NOSUID, attr.clone()), [1, 2, 2, 2]);
+            assert_eq!(launched_groups(&four_groups(), flags | TRACED, attr.clone()), [1, 2, 2, 2]);
+            assert_eq!(launched_groups(&four_groups(), flags | NOSUID | TRACED, attr.clone()), [1, 2, 2, 2]);
+        }
+    }
+    // For root too, whatever it has.
+    let before = with_groups(full_root(), 1, 2, 3, 4);
+    assert_eq!(launched_groups(&before, SET_GROUP_ID | NOSUID, vec![]), [1, 2, 2, 2]);
+    assert_eq!(launched_groups(&before, SET_GROUP_ID | TRACED, vec![]), [1, 2, 2, 2]);
+}
+
+#[test]
+fn b_set_group_id_stays_in_force_under_no_file_caps() {
+    for attr in [vec![], attribute(FULL, FULL, true), unreadable()] {
+        let launched = after(&four_groups(), &of_group(9, execve(8, SET_GROUP_ID | NO_FILE_CAPS, attr)));
+        assert_eq!(launched, with_groups(with_ids(user(), 11, 12, 12, 12), 1, 9, 9, 9));
+    }
+}
+
+#[test]
+fn b_set_group_id_beside_an_attribute() {
+    let launched = after(&four_groups(), &of_group(9, execve(8, SET_GROUP_ID, attribute(NET_RAW, 0, true))));
+    let expected = Credentials { permitted: NET_RAW, effective: NET_RAW, ..with_ids(user(), 11, 12, 12, 12) };
+    assert_eq!(launched, with_groups(expected, 1, 9, 9, 9));
+}
+
+#[test]
+fn b_leaving_group_0_in_a_launch_touches_no_set() {
+    let before = with_groups(ambient_user(), 0, 0, 0, 0);
+    assert_eq!(after(&before, &execve(0, 0, vec![])), before);
+    let before = with_groups(ambient_user(), 5, 5, 0, 0);
+    assert_eq!(after(&before, &execve(0, 0, vec![])), with_groups(ambient_user(), 5, 5, 5, 5));
+}
+
 #[test]
 fn b_the_id_change_rules_do_not_run() {
     // The saved ID leaves 0 and no other is 0: in an ID call P, E and A would be cleared.
@@ -118,6 +200,29 @@ fn c_the_ids_after_b_decide() {
 }
 
 #[test]
+fn c_group_ids_have_no_say() {
+    // Groups 0 from the start, and by the launch: no file set counts as full and no bit as on.
+    let before = with_groups(user(), 0, 0, 0, 0);
+    assert_eq!(after(&before, &execve(1000, 0, vec![])), before);
+    assert_eq!(after(&before, &execve(1000, SET_GROUP_ID, vec![])), before);
+    assert_eq!(after(&user(), &execve(1000, SET_GROUP_ID, vec![])), with_groups(user(), 1000, 0, 0, 0));
+    let launched = after(&before, &execve(1000, SET_GROUP_ID, attribute(NET_RAW, 0, false)));
+    assert_eq!(launched, Credentials { permitted: NET_RAW, ..before });
+
+    // User ID 0 needs no group 0.
+    for group in [0, 1000] {
+        let before = with_groups(root(), group, group, group, group);
+        let launched = after(&before, &of_group(1000, execve(0, SET_GROUP_ID, vec![])));
+        assert_eq!((launched.permitted, launched.effective), (FULL, FULL));
+    }
+
+    // The exception is for a real user ID that is not 0, whatever the real group.
+    let before = with_groups(with_ids(user(), 1000, 0, 0, 0), 0, 1000, 1000, 1000);
+    let launched = after(&before, &execve(0, 0, attribute(NET_RAW, 0, false)));
+    assert_eq!((launched.permitted, launched.effective), (NET_RAW, 0));
+}
+
+#[test]
 fn c_noroot_stops_the_special_treatment() {
     let before = Credentials { securebits: NOROOT, inheritable: NET_ADMIN, ..root() };
     assert_eq!(after(&before, &execve(0, 0, vec![])), before);
@@ -137,6 +242,19 @@ fn d_each_kind_of_privilege_empties_ambient() {
     {
         let launched = after(&ambient_user(), &execve(1000, flags, attr));
         assert_eq!((launched.ambient, launched.permitted, launched.effective), (0, 0, 0));
+    }
+}
+
+#[test]
+fn d_set_group_id_empties_ambient_whatever_the_group() {
+    let before = with_groups(ambient_user(), 1, 2, 3, 4);
+    for group in [0, 1, 2, 3, 4, 9] {
+        let launched = after(&before, &of_group(group, execve(1000, SET_GROUP_ID, vec![])));
+        assert_eq!((launched.ambient, launched.permitted, launched.effective), (0, 0, 0));
+        for flags in [0, SET_GROUP_ID | NOSUID, SET_GROUP_ID | TRACED] {
+            let launched = after(&before, &of_group(group, execve(1000, flags, vec![])));
+            assert_eq!(launched, with_groups(ambient_user(), 1, 2, 2, 2));
+        }
     }
 }
 

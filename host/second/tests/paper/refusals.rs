@@ -4,8 +4,8 @@ use crate::helpers::*;
 use second::{Credentials, Outcome, Step};
 
 /// Operands with which each call is done by `full_root`, and how many of them the call uses.
-const DONE: [(u8, [u64; 3], usize); 18] = [
-    (1, [0, 0, 0], 2),
+const DONE: [(u8, [u64; 3], usize); 22] = [
+    (1, [0, 0, 0], 3),
     (2, [0, 0, 0], 3),
     (3, [0, 0, 0], 1),
     (4, [0, 0, 0], 1),
@@ -23,6 +23,10 @@ const DONE: [(u8, [u64; 3], usize); 18] = [
     (16, [0, 0, 0], 2),
     (17, [0, 0, 0], 3),
     (18, [0, 0, 0], 1),
+    (19, [0, 0, 0], 1),
+    (20, [0, 0, 0], 2),
+    (21, [0, 0, 0], 3),
+    (22, [0, 0, 0], 1),
 ];
 
 /// A thread that every call of `DONE` is allowed to.
@@ -43,7 +47,7 @@ fn code_0_every_call_can_be_done() {
 
 #[test]
 fn code_22_unknown_calls() {
-    for number in (0..=255).filter(|number| !(1..=18).contains(number)) {
+    for number in (0..=255).filter(|number| !(1..=22).contains(number)) {
         assert_refused(&able(), &step(number, 0, 0, 0), 22);
         assert_refused(&able(), &step(number, 1, 0, 0), 22);
     }
@@ -131,6 +135,44 @@ fn code_22_ids() {
 }
 
 #[test]
+fn code_22_group_ids() {
+    for group in [LEAVE, LEAVE + 1, (1 << 32) + 1000, u64::MAX] {
+        assert_refused(&able(), &step(19, group, 0, 0), 22);
+        assert_refused(&user(), &step(19, group, 0, 0), 22);
+    }
+    for group in [LEAVE + 1, LEAVE + 2, (1 << 32) + 1000, u64::MAX] {
+        for before in [able(), user()] {
+            assert_refused(&before, &step(20, group, LEAVE, 0), 22);
+            assert_refused(&before, &step(20, LEAVE, group, 0), 22);
+            assert_refused(&before, &step(21, group, LEAVE, LEAVE), 22);
+            assert_refused(&before, &step(21, LEAVE, group, LEAVE), 22);
+            assert_refused(&before, &step(21, LEAVE, LEAVE, group), 22);
+            assert_refused(&before, &step(22, group, 0, 0), 22);
+        }
+    }
+    for before in [able(), user()] {
+        done(&before, &step(20, LEAVE, LEAVE, 0));
+        done(&before, &step(21, LEAVE, LEAVE, LEAVE));
+        done(&before, &step(22, LEAVE, 0, 0));
+    }
+}
+
+#[test]
+fn code_22_the_files_group() {
+    let nnp = Credentials { nnp: true, ..able() };
+    for flags in 0..=31 {
+        for group in [LEAVE, LEAVE + 1, (1 << 32) + 1000, u64::MAX] {
+            assert_refused(&able(), &of_group(group, execve(0, flags, vec![])), 22);
+            assert_refused(&nnp, &of_group(group, execve(0, flags, vec![])), 22);
+        }
+        for group in [0, 1, 1000, LEAVE - 1] {
+            done(&able(), &of_group(group, execve(0, flags, vec![])));
+            done(&nnp, &of_group(group, execve(0, flags, vec![])));
+        }
+    }
+}
+
+#[test]
 fn code_60_attributes() {
     let revision_3 = [vec![0, 0, 0, 3], vec![0; 20]].concat();
     let above_40 = attribute(1 << 41, 0, false);
@@ -157,6 +199,10 @@ fn not_valid() -> Vec<Credentials> {
         Credentials { euid: u32::MAX, ..user() },
         Credentials { suid: u32::MAX, ..user() },
         Credentials { fsuid: u32::MAX, ..user() },
+        Credentials { rgid: u32::MAX, ..user() },
+        Credentials { egid: u32::MAX, ..user() },
+        Credentials { sgid: u32::MAX, ..user() },
+        Credentials { fsgid: u32::MAX, ..user() },
     ];
     for bit in 41..64 {
         let high = 1 << bit;
@@ -178,6 +224,8 @@ fn code_72_whatever_the_step() {
         }
         assert_refused(&credentials, &step(0, 1, 2, 3), 72);
         assert_refused(&credentials, &execve(0, 0, vec![0xff]), 72);
+        assert_refused(&credentials, &of_group(LEAVE, execve(0, 0, vec![])), 72);
+        assert_refused(&credentials, &step(19, LEAVE, 0, 0), 72);
     }
 }
 
@@ -185,9 +233,11 @@ fn code_72_whatever_the_step() {
 fn credentials_at_the_edge_are_valid() {
     assert!(user().is_valid());
     let highest = with_ids(full_root(), u32::MAX - 1, u32::MAX - 1, u32::MAX - 1, u32::MAX - 1);
+    let highest = with_groups(highest, u32::MAX - 1, u32::MAX - 1, u32::MAX - 1, u32::MAX - 1);
     let edge = Credentials { inheritable: FULL, ambient: FULL, securebits: 255, nnp: true, ..highest };
     assert!(edge.is_valid());
-    assert!(Credentials { bounding: 0, ..edge }.is_valid());
+    assert!(Credentials { bounding: 0, ..edge.clone() }.is_valid());
+    assert!(with_groups(edge, 0, 0, 0, 0).is_valid());
 }
 
 #[test]
@@ -197,9 +247,13 @@ fn order_22_before_60_before_1() {
     let unreadable = attribute(NET_RAW | 1 << 41, 0, true);
     assert_refused(&before, &execve(LEAVE, 0, unreadable.clone()), 22);
     assert_refused(&before, &execve(0, 32, unreadable.clone()), 22);
-    assert_refused(&before, &Step { c: 1, ..execve(0, 0, unreadable.clone()) }, 22);
+    assert_refused(&before, &of_group(LEAVE, execve(0, 0, unreadable.clone())), 22);
+    assert_refused(&before, &of_group(LEAVE - 1, execve(0, 0, unreadable.clone())), 60);
+    assert_refused(&before, &of_group(9, execve(0, SET_GROUP_ID, unreadable.clone())), 60);
     assert_refused(&before, &execve(0, 0, unreadable), 60);
     assert_refused(&before, &execve(0, 0, refused_by_f.clone()), 1);
+    assert_refused(&before, &of_group(9, execve(0, SET_GROUP_ID, refused_by_f.clone())), 1);
+    assert_refused(&before, &of_group(LEAVE, execve(0, 0, refused_by_f.clone())), 22);
     assert_refused(&before, &execve(LEAVE, 0, refused_by_f), 22);
 }
 
@@ -215,6 +269,13 @@ fn order_22_before_1() {
     assert_refused(&user(), &step(15, LEAVE, 0, 0), 22);
     assert_refused(&user(), &step(15, LEAVE - 1, 0, 0), 1);
     assert_refused(&user(), &step(16, 1, LEAVE + 1, 0), 22);
+    assert_refused(&user(), &step(19, LEAVE, 0, 0), 22);
+    assert_refused(&user(), &step(19, LEAVE - 1, 0, 0), 1);
+    assert_refused(&user(), &step(20, 1, LEAVE + 1, 0), 22);
+    assert_refused(&user(), &step(20, 1, LEAVE, 1), 22);
+    assert_refused(&user(), &step(20, 1, LEAVE, 0), 1);
+    assert_refused(&user(), &step(21, 1, LEAVE, LEAVE + 1), 22);
+    assert_refused(&user(), &step(21, 1, LEAVE, LEAVE), 1);
     let locked = Credentials { securebits: KEEP_CAPS_LOCKED, ..user() };
     assert_refused(&locked, &step(11, 2, 0, 0), 22);
     assert_refused(&locked, &step(11, 1, 0, 0), 1);
@@ -225,7 +286,7 @@ fn plan_order_70_before_72_before_28() {
     let invalid = SHEET.replace("ruid=1000", "ruid=4294967295");
     let mut buffer = [0xa5; 4];
     let plan = format!("{invalid}{LAUNCH}x");
-    assert_eq!(second::run_plan(plan.as_bytes(), &mut buffer), Outcome::Malformed { line: 17 });
+    assert_eq!(second::run_plan(plan.as_bytes(), &mut buffer), Outcome::Malformed { line: 21 });
     let plan = format!("{invalid}{LAUNCH}");
     assert_eq!(second::run_plan(plan.as_bytes(), &mut buffer), Outcome::Invalid);
     let plan = format!("{SHEET}{LAUNCH}");
@@ -240,6 +301,10 @@ fn plan_72_for_each_fault_of_the_sheet() {
         ("euid=1000", "euid=4294967295"),
         ("suid=1000", "suid=4294967295"),
         ("fsuid=1000", "fsuid=4294967295"),
+        ("rgid=1000", "rgid=4294967295"),
+        ("egid=1000", "egid=4294967295"),
+        ("sgid=1000", "sgid=4294967295"),
+        ("fsgid=1000", "fsgid=4294967295"),
         ("permitted=0000000000002000", "permitted=0000000000000000"),
         ("permitted=0000000000002000", "permitted=0000020000002000"),
         ("inheritable=0000000000002000", "inheritable=0000000000000000"),

@@ -6,15 +6,21 @@ use second::{read_sheet, write_sheet, Written};
 /// What a place of a lent list holds before the call.
 const UNTOUCHED: u64 = 0xa5a5_a5a5_a5a5_a5a5;
 
-/// The numbers of case 2's sheet, which is 195 bytes long.
-const VALUES: [u64; 11] = [1000, 1000, 1000, 1000, 0x2000, 0x2000, 0x2000, 0x1ff_ffff_ffff, 0x2000, 0, 0];
+/// The numbers of case 2's sheet, which is 236 bytes long.
+const VALUES: [u64; 15] =
+    [1000, 1000, 1000, 1000, 1000, 1000, 1000, 1000, 0x2000, 0x2000, 0x2000, 0x1ff_ffff_ffff, 0x2000, 0, 0];
 
-/// A sheet of eleven different values: 10 + 7 + 16 + 12 bytes of IDs, 27 + 29 + 27 + 26 + 25 of sets, then 14 + 6.
+/// A sheet of fifteen different values: 10 + 7 + 16 + 12 bytes of user IDs, 8 + 16 + 7 + 13 of group IDs,
+/// 27 + 29 + 27 + 26 + 25 of sets, then 14 + 6.
 const DISTINCT: &str = "\
 ruid=1000
 euid=0
 suid=4294967294
 fsuid=65534
+rgid=50
+egid=4294967293
+sgid=7
+fsgid=123456
 permitted=0000010000003420
 inheritable=0000000000022000
 effective=0000000000001400
@@ -23,12 +29,16 @@ ambient=0000000000002000
 securebits=ef
 nnp=1
 ";
-const DISTINCT_LENGTH: u32 = 199;
-const DISTINCT_VALUES: [u64; 11] = [
+const DISTINCT_LENGTH: u32 = 243;
+const DISTINCT_VALUES: [u64; 15] = [
     1000,
     0,
     4_294_967_294,
     65_534,
+    50,
+    4_294_967_293,
+    7,
+    123_456,
     0x0000_0100_0000_3420,
     0x0000_0000_0002_2000,
     0x0000_0000_0000_1400,
@@ -38,30 +48,33 @@ const DISTINCT_VALUES: [u64; 11] = [
     1,
 ];
 
-/// The places of the sets in a list of values.
-const PERMITTED: usize = 4;
-const INHERITABLE: usize = 5;
-const EFFECTIVE: usize = 6;
-const BOUNDING: usize = 7;
-const AMBIENT: usize = 8;
-const SECUREBITS: usize = 9;
-const NNP: usize = 10;
+/// The places of the sets and flags in a list of values.
+const PERMITTED: usize = 8;
+const INHERITABLE: usize = 9;
+const EFFECTIVE: usize = 10;
+const BOUNDING: usize = 11;
+const AMBIENT: usize = 12;
+const SECUREBITS: usize = 13;
+const NNP: usize = 14;
 
-/// Reads into twelve places; the twelfth must stay.
-fn read(text: &[u8]) -> (Written, [u64; 11]) {
-    let mut values = [UNTOUCHED; 12];
+/// The keys of the IDs; each one's place is its place in a list of values.
+const ID_KEYS: [&str; 8] = ["ruid", "euid", "suid", "fsuid", "rgid", "egid", "sgid", "fsgid"];
+
+/// Reads into sixteen places; the sixteenth must stay.
+fn read(text: &[u8]) -> (Written, [u64; 15]) {
+    let mut values = [UNTOUCHED; 16];
     let written = read_sheet(text, &mut values);
-    assert_eq!(values[11], UNTOUCHED);
-    (written, values[..11].try_into().unwrap())
+    assert_eq!(values[15], UNTOUCHED);
+    (written, values[..15].try_into().unwrap())
 }
 
-fn assert_reads(text: &str, expected: [u64; 11]) {
-    assert_eq!(read(text.as_bytes()), (Written { code: 0, number: 11 }, expected), "{text}");
+fn assert_reads(text: &str, expected: [u64; 15]) {
+    assert_eq!(read(text.as_bytes()), (Written { code: 0, number: 15 }, expected), "{text}");
 }
 
 /// A refused text leaves every place alone, and the code is the same whether there is room or not.
 fn assert_not_read(text: &[u8], code: u32, number: u32) {
-    for places in [0, 1, 10, 11, 12] {
+    for places in [0, 1, 11, 14, 15, 16] {
         let mut values = vec![UNTOUCHED; places];
         let written = read_sheet(text, &mut values);
         assert_eq!(written, Written { code, number }, "{places} places, {:?}", String::from_utf8_lossy(text));
@@ -78,13 +91,13 @@ fn write(values: &[u64]) -> (Written, String) {
     (written, String::from_utf8(buffer[..length].to_vec()).unwrap())
 }
 
-fn assert_writes(values: [u64; 11], expected: &str, length: u32) {
+fn assert_writes(values: [u64; 15], expected: &str, length: u32) {
     assert_eq!(write(&values), (Written { code: 0, number: length }, expected.to_string()), "{values:x?}");
 }
 
 /// Values that are refused leave every byte alone, and the code is 72 whether there is room or not.
 fn assert_not_written(values: &[u64]) {
-    for length in [0, 1, 182, 300] {
+    for length in [0, 1, 211, 300] {
         let mut buffer = vec![0xa5; length];
         let written = write_sheet(values, &mut buffer);
         assert_eq!(written, Written { code: 72, number: 0 }, "{length} bytes, {values:x?}");
@@ -93,7 +106,7 @@ fn assert_not_written(values: &[u64]) {
 }
 
 /// Case 2's values with one other.
-fn values_with(place: usize, value: u64) -> [u64; 11] {
+fn values_with(place: usize, value: u64) -> [u64; 15] {
     let mut values = VALUES;
     values[place] = value;
     values
@@ -107,13 +120,15 @@ fn with_line(number: usize, new: &str) -> String {
 }
 
 /// The bench's sheet with these five sets, and its values.
-fn with_sets(sets: [u64; 5]) -> (String, [u64; 11]) {
+fn with_sets(sets: [u64; 5]) -> (String, [u64; 15]) {
     let [permitted, inheritable, effective, bounding, ambient] = sets;
     let text = format!(
-        "ruid=1000\neuid=1000\nsuid=1000\nfsuid=1000\npermitted={permitted:016x}\ninheritable={inheritable:016x}\n\
+        "ruid=1000\neuid=1000\nsuid=1000\nfsuid=1000\nrgid=1000\negid=1000\nsgid=1000\nfsgid=1000\n\
+         permitted={permitted:016x}\ninheritable={inheritable:016x}\n\
          effective={effective:016x}\nbounding={bounding:016x}\nambient={ambient:016x}\nsecurebits=00\nnnp=0\n"
     );
-    let values = [1000, 1000, 1000, 1000, permitted, inheritable, effective, bounding, ambient, 0, 0];
+    let mut values = [1000; 15];
+    values[PERMITTED..].copy_from_slice(&[permitted, inheritable, effective, bounding, ambient, 0, 0]);
     (text, values)
 }
 
@@ -128,31 +143,31 @@ fn assert_sets_not_valid(sets: [u64; 5]) {
 fn assert_sets_valid(sets: [u64; 5]) {
     let (text, values) = with_sets(sets);
     assert_reads(&text, values);
-    assert_writes(values, &text, 195);
+    assert_writes(values, &text, 236);
 }
 
 #[test]
-fn read_eleven_values_in_the_order_of_the_lines() {
+fn read_fifteen_values_in_the_order_of_the_lines() {
     assert_reads(DISTINCT, DISTINCT_VALUES);
     assert_reads(SHEET, VALUES);
 }
 
 #[test]
-fn written_eleven_values_in_the_order_of_the_lines() {
+fn written_fifteen_values_in_the_order_of_the_lines() {
     assert_writes(DISTINCT_VALUES, DISTINCT, DISTINCT_LENGTH);
-    assert_writes(VALUES, SHEET, 195);
+    assert_writes(VALUES, SHEET, 236);
 }
 
 #[test]
-fn read_into_exactly_eleven_places() {
-    let mut values = [UNTOUCHED; 11];
-    assert_eq!(read_sheet(DISTINCT.as_bytes(), &mut values), Written { code: 0, number: 11 });
+fn read_into_exactly_fifteen_places() {
+    let mut values = [UNTOUCHED; 15];
+    assert_eq!(read_sheet(DISTINCT.as_bytes(), &mut values), Written { code: 0, number: 15 });
     assert_eq!(values, DISTINCT_VALUES);
 }
 
 #[test]
 fn read_into_fewer_places_gives_28() {
-    for places in 0..11 {
+    for places in 0..15 {
         let mut values = vec![UNTOUCHED; places];
         assert_eq!(read_sheet(DISTINCT.as_bytes(), &mut values), Written { code: 28, number: 0 });
         assert!(values.iter().all(|&value| value == UNTOUCHED));
@@ -162,23 +177,23 @@ fn read_into_fewer_places_gives_28() {
 #[test]
 fn read_into_more_places_leaves_them() {
     for more in [1, 2, 100, 10_000] {
-        let mut values = vec![UNTOUCHED; 11 + more];
-        assert_eq!(read_sheet(DISTINCT.as_bytes(), &mut values), Written { code: 0, number: 11 });
-        assert_eq!(values[..11], DISTINCT_VALUES);
-        assert!(values[11..].iter().all(|&value| value == UNTOUCHED));
+        let mut values = vec![UNTOUCHED; 15 + more];
+        assert_eq!(read_sheet(DISTINCT.as_bytes(), &mut values), Written { code: 0, number: 15 });
+        assert_eq!(values[..15], DISTINCT_VALUES);
+        assert!(values[15..].iter().all(|&value| value == UNTOUCHED));
     }
 }
 
 #[test]
 fn written_into_exactly_enough_bytes() {
-    let mut buffer = [0xa5; 199];
-    assert_eq!(write_sheet(&DISTINCT_VALUES, &mut buffer), Written { code: 0, number: 199 });
+    let mut buffer = [0xa5; 243];
+    assert_eq!(write_sheet(&DISTINCT_VALUES, &mut buffer), Written { code: 0, number: 243 });
     assert_eq!(&buffer, DISTINCT.as_bytes());
 }
 
 #[test]
 fn written_into_fewer_bytes_gives_28() {
-    for length in 0..199 {
+    for length in 0..243 {
         let mut buffer = vec![0xa5; length];
         assert_eq!(write_sheet(&DISTINCT_VALUES, &mut buffer), Written { code: 28, number: 0 });
         assert!(buffer.iter().all(|&byte| byte == 0xa5));
@@ -188,28 +203,30 @@ fn written_into_fewer_bytes_gives_28() {
 #[test]
 fn written_into_more_bytes_leaves_them() {
     for more in [1, 2, 100, 10_000] {
-        let mut buffer = vec![0xa5; 199 + more];
-        assert_eq!(write_sheet(&DISTINCT_VALUES, &mut buffer), Written { code: 0, number: 199 });
-        assert_eq!(&buffer[..199], DISTINCT.as_bytes());
-        assert!(buffer[199..].iter().all(|&byte| byte == 0xa5));
+        let mut buffer = vec![0xa5; 243 + more];
+        assert_eq!(write_sheet(&DISTINCT_VALUES, &mut buffer), Written { code: 0, number: 243 });
+        assert_eq!(&buffer[..243], DISTINCT.as_bytes());
+        assert!(buffer[243..].iter().all(|&byte| byte == 0xa5));
     }
 }
 
 #[test]
 fn the_shortest_and_the_longest_sheet() {
-    let shortest = "ruid=0\neuid=0\nsuid=0\nfsuid=0\npermitted=0000000000000000\ninheritable=0000000000000000\n\
+    let shortest = "ruid=0\neuid=0\nsuid=0\nfsuid=0\nrgid=0\negid=0\nsgid=0\nfsgid=0\n\
+                    permitted=0000000000000000\ninheritable=0000000000000000\n\
                     effective=0000000000000000\nbounding=0000000000000000\nambient=0000000000000000\n\
                     securebits=00\nnnp=0\n";
-    assert_reads(shortest, [0; 11]);
-    assert_writes([0; 11], shortest, 183);
+    assert_reads(shortest, [0; 15]);
+    assert_writes([0; 15], shortest, 212);
 
     let longest = "ruid=4294967294\neuid=4294967294\nsuid=4294967294\nfsuid=4294967294\n\
+                   rgid=4294967294\negid=4294967294\nsgid=4294967294\nfsgid=4294967294\n\
                    permitted=000001ffffffffff\ninheritable=000001ffffffffff\neffective=000001ffffffffff\n\
                    bounding=000001ffffffffff\nambient=000001ffffffffff\nsecurebits=ff\nnnp=1\n";
     let id = 4_294_967_294;
-    let values = [id, id, id, id, FULL, FULL, FULL, FULL, FULL, 255, 1];
+    let values = [id, id, id, id, id, id, id, id, FULL, FULL, FULL, FULL, FULL, 255, 1];
     assert_reads(longest, values);
-    assert_writes(values, longest, 219);
+    assert_writes(values, longest, 284);
 }
 
 #[test]
@@ -219,7 +236,7 @@ fn empty_text_is_a_fault_at_line_1() {
 
 #[test]
 fn a_missing_line_is_a_fault_where_it_should_stand() {
-    for number in 1..=11 {
+    for number in 1..=15 {
         assert_not_read(with_line(number, "").as_bytes(), 70, number as u32);
     }
 }
@@ -234,7 +251,7 @@ fn a_doubled_line_is_a_fault_at_the_second() {
 
 #[test]
 fn two_lines_in_each_others_place_are_a_fault_at_the_first() {
-    for first in 0..10 {
+    for first in 0..14 {
         let mut lines: Vec<&str> = SHEET.split_inclusive('\n').collect();
         lines.swap(first, first + 1);
         assert_not_read(lines.concat().as_bytes(), 70, first as u32 + 1);
@@ -242,9 +259,30 @@ fn two_lines_in_each_others_place_are_a_fault_at_the_first() {
 }
 
 #[test]
-fn without_the_final_newline_line_11_is_not_complete() {
-    assert_not_read(SHEET.trim_end().as_bytes(), 70, 11);
-    assert_not_read(DISTINCT.trim_end().as_bytes(), 70, 11);
+fn group_lines_stand_between_fsuid_and_permitted() {
+    let lines: Vec<&str> = DISTINCT.split_inclusive('\n').collect();
+    let (users, groups, rest) = (lines[..4].concat(), lines[4..8].concat(), lines[8..].concat());
+    assert_reads(&[&*users, &groups, &rest].concat(), DISTINCT_VALUES);
+    // Without them, after the sets, and first.
+    assert_not_read([&*users, &rest].concat().as_bytes(), 70, 5);
+    assert_not_read([&*users, &rest, &groups].concat().as_bytes(), 70, 5);
+    assert_not_read([&*groups, &users, &rest].concat().as_bytes(), 70, 1);
+    // A user ID's key in a group ID's place, and the other way round.
+    for (number, key) in [(5, "ruid"), (6, "euid"), (7, "suid"), (8, "fsuid")] {
+        assert_not_read(with_line(number, &format!("{key}=1000\n")).as_bytes(), 70, number as u32);
+    }
+    for (number, key) in [(1, "rgid"), (2, "egid"), (3, "sgid"), (4, "fsgid")] {
+        assert_not_read(with_line(number, &format!("{key}=1000\n")).as_bytes(), 70, number as u32);
+    }
+    for (number, key) in [(5, "gid"), (6, "gid"), (7, "svgid"), (8, "fgid"), (8, "fsguid")] {
+        assert_not_read(with_line(number, &format!("{key}=1000\n")).as_bytes(), 70, number as u32);
+    }
+}
+
+#[test]
+fn without_the_final_newline_line_15_is_not_complete() {
+    assert_not_read(SHEET.trim_end().as_bytes(), 70, 15);
+    assert_not_read(DISTINCT.trim_end().as_bytes(), 70, 15);
 }
 
 #[test]
@@ -256,14 +294,14 @@ fn cut_off_anywhere() {
 }
 
 #[test]
-fn text_past_the_sheet_is_a_fault_at_line_12() {
+fn text_past_the_sheet_is_a_fault_at_line_16() {
     for past in ["\n", "\r\n", " ", "\0", "x", "nnp=0\n", "end\n", "ruid=1000\n", LAUNCH, SHEET, "c", "call=1\n"] {
-        assert_not_read(format!("{SHEET}{past}").as_bytes(), 70, 12);
-        assert_not_read(format!("{DISTINCT}{past}").as_bytes(), 70, 12);
+        assert_not_read(format!("{SHEET}{past}").as_bytes(), 70, 16);
+        assert_not_read(format!("{DISTINCT}{past}").as_bytes(), 70, 16);
     }
     let mut text = SHEET.as_bytes().to_vec();
     text.resize(1 << 20, b'\n');
-    assert_not_read(&text, 70, 12);
+    assert_not_read(&text, 70, 16);
 }
 
 #[test]
@@ -302,9 +340,9 @@ fn every_line_wrong_in_every_plain_way() {
 
 #[test]
 fn upper_case_digits_are_a_fault() {
-    assert_not_read(with_line(5, "permitted=000000000000A000\n").as_bytes(), 70, 5);
-    assert_not_read(with_line(8, "bounding=000001FFFFFFFFFF\n").as_bytes(), 70, 8);
-    assert_not_read(with_line(10, "securebits=EF\n").as_bytes(), 70, 10);
+    assert_not_read(with_line(9, "permitted=000000000000A000\n").as_bytes(), 70, 9);
+    assert_not_read(with_line(12, "bounding=000001FFFFFFFFFF\n").as_bytes(), 70, 12);
+    assert_not_read(with_line(14, "securebits=EF\n").as_bytes(), 70, 14);
 }
 
 #[test]
@@ -317,7 +355,7 @@ fn carriage_returns_and_broken_encodings() {
 
 #[test]
 fn ids_read() {
-    for (index, key) in ["ruid", "euid", "suid", "fsuid"].into_iter().enumerate() {
+    for (index, key) in ID_KEYS.into_iter().enumerate() {
         let number = index + 1;
         assert_reads(&with_line(number, &format!("{key}=0\n")), values_with(index, 0));
         assert_reads(&with_line(number, &format!("{key}=4294967294\n")), values_with(index, 4_294_967_294));
@@ -330,10 +368,10 @@ fn ids_read() {
 
 #[test]
 fn ids_written() {
-    for (index, key) in ["ruid", "euid", "suid", "fsuid"].into_iter().enumerate() {
-        assert_writes(values_with(index, 0), &with_line(index + 1, &format!("{key}=0\n")), 192);
+    for (index, key) in ID_KEYS.into_iter().enumerate() {
+        assert_writes(values_with(index, 0), &with_line(index + 1, &format!("{key}=0\n")), 233);
         let most = with_line(index + 1, &format!("{key}=4294967294\n"));
-        assert_writes(values_with(index, 4_294_967_294), &most, 201);
+        assert_writes(values_with(index, 4_294_967_294), &most, 242);
         for wrong in [4_294_967_295, 4_294_967_296, 4_294_968_296, 1 << 63, u64::MAX] {
             assert_not_written(&values_with(index, wrong));
         }
@@ -406,12 +444,12 @@ fn bit_40_is_valid_in_every_set_and_41_in_none() {
 #[test]
 fn securebits_go_to_255() {
     for (value, digits) in [(0, "00"), (1, "01"), (16, "10"), (170, "aa"), (255, "ff")] {
-        let text = with_line(10, &format!("securebits={digits}\n"));
+        let text = with_line(14, &format!("securebits={digits}\n"));
         assert_reads(&text, values_with(SECUREBITS, value));
-        assert_writes(values_with(SECUREBITS, value), &text, 195);
+        assert_writes(values_with(SECUREBITS, value), &text, 236);
     }
     for wrong in ["", "0", "000", "100", "0F", "+0", "0x"] {
-        assert_not_read(with_line(10, &format!("securebits={wrong}\n")).as_bytes(), 70, 10);
+        assert_not_read(with_line(14, &format!("securebits={wrong}\n")).as_bytes(), 70, 14);
     }
     for wrong in [256, 272, 511, 1 << 32, u64::MAX] {
         assert_not_written(&values_with(SECUREBITS, wrong));
@@ -420,10 +458,10 @@ fn securebits_go_to_255() {
 
 #[test]
 fn no_new_privs_is_0_or_1() {
-    assert_reads(&with_line(11, "nnp=1\n"), values_with(NNP, 1));
-    assert_writes(values_with(NNP, 1), &with_line(11, "nnp=1\n"), 195);
+    assert_reads(&with_line(15, "nnp=1\n"), values_with(NNP, 1));
+    assert_writes(values_with(NNP, 1), &with_line(15, "nnp=1\n"), 236);
     for wrong in ["", "2", "00", "01", "10", "true", "-"] {
-        assert_not_read(with_line(11, &format!("nnp={wrong}\n")).as_bytes(), 70, 11);
+        assert_not_read(with_line(15, &format!("nnp={wrong}\n")).as_bytes(), 70, 15);
     }
     for wrong in [2, 3, 256, 257, 1 << 32, (1 << 32) + 1, u64::MAX] {
         assert_not_written(&values_with(NNP, wrong));
@@ -431,14 +469,16 @@ fn no_new_privs_is_0_or_1() {
 }
 
 #[test]
-fn only_eleven_values_are_written() {
-    for count in (0..=40).filter(|&count| count != 11) {
+fn only_fifteen_values_are_written() {
+    for count in (0..=40).filter(|&count| count != 15) {
         assert_not_written(&vec![0; count]);
     }
-    assert_not_written(&VALUES[..10]);
-    let mut twelve = VALUES.to_vec();
-    twelve.push(0);
-    assert_not_written(&twelve);
+    assert_not_written(&VALUES[..14]);
+    let mut sixteen = VALUES.to_vec();
+    sixteen.push(0);
+    assert_not_written(&sixteen);
+    let without_groups = [&VALUES[..4], &VALUES[PERMITTED..]].concat();
+    assert_not_written(&without_groups);
 }
 
 #[test]
@@ -446,36 +486,36 @@ fn malformed_comes_before_not_valid() {
     // Line 1 is right and not valid; what is wrong stands further down.
     let not_valid = with_line(1, "ruid=4294967295\n");
     assert_not_read(not_valid.as_bytes(), 72, 0);
-    assert_not_read(not_valid.replace("nnp=0\n", "").as_bytes(), 70, 11);
-    assert_not_read(not_valid.replace("nnp=0\n", "nnp=2\n").as_bytes(), 70, 11);
-    assert_not_read(not_valid.replace("securebits=00", "securebits=0").as_bytes(), 70, 10);
-    assert_not_read(not_valid.trim_end().as_bytes(), 70, 11);
-    assert_not_read(format!("{not_valid}\n").as_bytes(), 70, 12);
-    assert_not_read(format!("{not_valid}{LAUNCH}").as_bytes(), 70, 12);
+    assert_not_read(not_valid.replace("nnp=0\n", "").as_bytes(), 70, 15);
+    assert_not_read(not_valid.replace("nnp=0\n", "nnp=2\n").as_bytes(), 70, 15);
+    assert_not_read(not_valid.replace("securebits=00", "securebits=0").as_bytes(), 70, 14);
+    assert_not_read(not_valid.trim_end().as_bytes(), 70, 15);
+    assert_not_read(format!("{not_valid}\n").as_bytes(), 70, 16);
+    assert_not_read(format!("{not_valid}{LAUNCH}").as_bytes(), 70, 16);
 }
 
 #[test]
 fn not_valid_comes_before_no_room() {
-    let mut values = [UNTOUCHED; 10];
-    let not_valid = with_line(7, "effective=0000000000000001\n");
+    let mut values = [UNTOUCHED; 14];
+    let not_valid = with_line(11, "effective=0000000000000001\n");
     assert_eq!(read_sheet(not_valid.as_bytes(), &mut values), Written { code: 72, number: 0 });
     assert_eq!(read_sheet(not_valid.as_bytes(), &mut []), Written { code: 72, number: 0 });
     assert_eq!(read_sheet(SHEET.as_bytes(), &mut values), Written { code: 28, number: 0 });
-    assert_eq!(values, [UNTOUCHED; 10]);
+    assert_eq!(values, [UNTOUCHED; 14]);
 
-    let mut buffer = [0xa5; 194];
+    let mut buffer = [0xa5; 235];
     assert_eq!(write_sheet(&values_with(EFFECTIVE, 1), &mut buffer), Written { code: 72, number: 0 });
     assert_eq!(write_sheet(&values_with(NNP, 2), &mut buffer), Written { code: 72, number: 0 });
-    assert_eq!(write_sheet(&VALUES[..10], &mut []), Written { code: 72, number: 0 });
+    assert_eq!(write_sheet(&VALUES[..14], &mut []), Written { code: 72, number: 0 });
     assert_eq!(write_sheet(&VALUES, &mut buffer), Written { code: 28, number: 0 });
     assert_eq!(write_sheet(&VALUES, &mut []), Written { code: 28, number: 0 });
-    assert_eq!(buffer, [0xa5; 194]);
+    assert_eq!(buffer, [0xa5; 235]);
 }
 
 #[test]
 fn malformed_comes_before_no_room() {
     assert_eq!(read_sheet(b"", &mut []), Written { code: 70, number: 1 });
-    assert_eq!(read_sheet(format!("{SHEET}x").as_bytes(), &mut [UNTOUCHED; 10]), Written { code: 70, number: 12 });
+    assert_eq!(read_sheet(format!("{SHEET}x").as_bytes(), &mut [UNTOUCHED; 14]), Written { code: 70, number: 16 });
 }
 
 #[test]

@@ -1,9 +1,9 @@
-//! The four ID calls and the capability rules for ID changes.
+//! The four user-ID calls and the capability rules for ID changes.
 
 use crate::helpers::*;
 use second::Credentials;
 
-/// Four different IDs, none of them 0.
+/// Four different user IDs, none of them 0.
 fn four_ids() -> Credentials {
     with_ids(user(), 1, 2, 3, 4)
 }
