@@ -12,9 +12,12 @@ use crate::starts::{self, Flaw};
 use crate::{with_steps, Generated, Kind, Plan, MOST_STEPS};
 use line::{Form, SHEET_LINES, STEP_LINES};
 use second::Credentials;
+use std::ops::Range;
 
 /// The line of refusal 70 for a 257th step.
 const LINE_OF_STEP_257: usize = SHEET_LINES + STEP_LINES * MOST_STEPS + 1;
+/// The lines of the group IDs, counted from 0.
+const GROUP_LINES: Range<usize> = 4..8;
 
 /// A text with some fault.
 pub(crate) fn broken(random: &mut Random) -> Generated {
@@ -40,13 +43,14 @@ pub(crate) fn broken_sheet(random: &mut Random) -> Generated {
     Generated { text, kind: Kind::Broken { fault, line, valid } }
 }
 
-// More often than the rest: the cuts, for every line is to be cut in and before, and text past the sheet.
+// More often than the rest: the cuts, for every line is to be cut in and before, text past the sheet, and another byte, for few leave a sheet.
 fn fault_of_a_sheet(random: &mut Random) -> Fault {
-    match random.below(12) {
+    match random.below(14) {
         0 => Fault::CutInLine,
         1 => Fault::CutBetweenLines,
         2 => Fault::Appended,
-        3 => random.pick(&[Fault::Noise, Fault::SheetThenNoise]),
+        3 => Fault::ByteChanged,
+        4 => random.pick(&[Fault::Noise, Fault::SheetThenNoise]),
         _ => loop {
             let fault = random.pick(&Fault::ALL);
             if fault.is_in_sheets() {
@@ -83,6 +87,10 @@ fn broken_by(random: &mut Random, fault: Fault, text: Vec<u8>) -> (Vec<u8>, Opti
     match fault {
         Fault::BlankLine | Fault::LineLost | Fault::LineDoubled | Fault::LinesExchanged => {
             let (text, line) = lines_moved(random, fault, &text);
+            (text, Some(line))
+        }
+        Fault::GroupsLost | Fault::GroupsMoved => {
+            let (text, line) = groups_moved(random, fault, &text);
             (text, Some(line))
         }
         Fault::CutInLine | Fault::CutBetweenLines => {
@@ -175,6 +183,30 @@ fn lines_moved(random: &mut Random, fault: Fault, text: &[u8]) -> (Vec<u8>, usiz
             let at = at.min(lines.len() - 2);
             lines.swap(at, at + 1);
             (lines.concat(), at + 1)
+        }
+    }
+}
+
+fn groups_moved(random: &mut Random, fault: Fault, text: &[u8]) -> (Vec<u8>, usize) {
+    let mut lines = split(text);
+    let groups: Vec<&[u8]> = lines.drain(GROUP_LINES).collect();
+    let first_line = GROUP_LINES.start + 1;
+    if fault == Fault::GroupsLost {
+        return (lines.concat(), first_line);
+    }
+    match random.below(4) {
+        0 => ([groups.concat(), lines.concat()].concat(), 1),
+        1 => {
+            for (place, group) in groups.into_iter().enumerate() {
+                lines.insert(2 * place + 1, group);
+            }
+            (lines.concat(), 2)
+        }
+        place => {
+            let end = SHEET_LINES - GROUP_LINES.len();
+            let at = if place == 2 { end } else { end - 2 };
+            lines.splice(at..at, groups);
+            (lines.concat(), first_line)
         }
     }
 }

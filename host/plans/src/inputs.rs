@@ -7,7 +7,7 @@ pub use operands::Operands;
 pub use values::{values, VALUES};
 
 use crate::random::Random;
-use crate::starts::{self, Flaw};
+use crate::starts::{self, Flaw, LARGEST_ID};
 use crate::{attributes, broken, sets, with_steps, Generated, Kind, Plan};
 use second::Credentials;
 
@@ -80,21 +80,24 @@ fn flawed(random: &mut Random) -> Credentials {
     start
 }
 
-/// Valid credentials, now and then with an ID next to a power of ten, where the number of its digits changes, or with the most securebits.
+/// Valid credentials, now and then with an ID, or all of them, next to a power of ten, where the number of its digits changes, or with the
+/// largest; or with the most securebits.
 fn start(random: &mut Random) -> Credentials {
     let mut start = starts::valid(random);
     if random.one_in(20) {
         start.securebits = 255;
     }
     if random.one_in(3) {
-        let power = 10_u32.pow(random.below(10) as u32);
-        let id = power - random.below(2) as u32;
-        match random.below(5) {
-            0 => start.ruid = id,
-            1 => start.euid = id,
-            2 => start.suid = id,
-            3 => start.fsuid = id,
-            _ => (start.ruid, start.euid, start.suid, start.fsuid) = (id, id, id, id),
+        let id = match random.below(11) {
+            10 => LARGEST_ID,
+            power => 10_u32.pow(power as u32) - random.below(2) as u32,
+        };
+        let Credentials { ruid, euid, suid, fsuid, rgid, egid, sgid, fsgid, .. } = &mut start;
+        let one = random.below(10);
+        for (place, own) in [ruid, euid, suid, fsuid, rgid, egid, sgid, fsgid].into_iter().enumerate() {
+            if one == place || one >= 8 {
+                *own = id;
+            }
         }
     }
     start
@@ -137,7 +140,7 @@ mod tests {
             let Input::ReadSheet(Generated { text, kind }) = input(seed) else { continue };
             let number = interface::read_sheet(&text, &mut places);
             let expected = match kind {
-                Kind::Runs(plan) | Kind::Flawed(plan) if !plan.steps.is_empty() => 70 << 32 | 12,
+                Kind::Runs(plan) | Kind::Flawed(plan) if !plan.steps.is_empty() => 70 << 32 | (VALUES as u64 + 1),
                 Kind::Runs(_) => VALUES as u64,
                 Kind::Flawed(_) => 72 << 32,
                 Kind::Broken { line: None, .. } => continue,

@@ -115,8 +115,8 @@ fn step_count(random: &mut Random) -> usize {
         0..=4 => 0,
         5..=19 => 1,
         20..=49 => 2 + random.below(6),
-        50..=97 => 2 + random.below(19),
-        98 => 21 + random.below(MOST_STEPS - 21),
+        50..=97 => 2 + random.below(27),
+        98 => 29 + random.below(MOST_STEPS - 29),
         _ => random.pick(&[MOST_STEPS - 1, MOST_STEPS]),
     }
 }
@@ -164,7 +164,7 @@ mod tests {
         for steps in [0, 1, 16, MOST_STEPS] {
             let plan = measured(7, steps);
             assert_eq!(plan.steps.len(), steps);
-            assert!(plan.steps.iter().all(|step| (1..=18).contains(&step.call)));
+            assert!(plan.steps.iter().all(|step| (1..=22).contains(&step.call)));
             let Outcome::Report { length } = run_plan(&plan.text(), &mut buffer) else { panic!("it is refused") };
             let report = std::str::from_utf8(&buffer[..length]).unwrap();
             assert!(!report.contains("code=22\n"));

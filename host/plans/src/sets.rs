@@ -4,11 +4,12 @@ use crate::random::Random;
 
 /// Every capability, 0 to 40.
 pub(crate) const FULL: u64 = 0x0000_01ff_ffff_ffff;
+pub(crate) const SETGID: u64 = 1 << 6;
 pub(crate) const SETUID: u64 = 1 << 7;
 pub(crate) const SETPCAP: u64 = 1 << 8;
 
 /// The capabilities that a rule names, the ends of the range and of its words, and some that the plans of examples/ use.
-const FAVOURED: [u64; 18] = [0, 1, 2, 3, 4, 7, 8, 9, 10, 12, 13, 17, 27, 31, 32, 33, 39, 40];
+const FAVOURED: [u64; 19] = [0, 1, 2, 3, 4, 6, 7, 8, 9, 10, 12, 13, 17, 27, 31, 32, 33, 39, 40];
 
 /// A capability's number, 0 to 40.
 pub(crate) fn capability(random: &mut Random) -> u64 {

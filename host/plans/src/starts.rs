@@ -4,9 +4,40 @@ use crate::random::Random;
 use crate::sets;
 use second::Credentials;
 
-/// The largest user ID; one more is no ID and stands for "leave" in some calls.
+/// The largest ID; one more is no ID and stands for "leave" in some calls.
 pub(crate) const LARGEST_ID: u32 = 4_294_967_294;
 pub(crate) const NO_ID: u32 = 4_294_967_295;
+
+/// User IDs or group IDs.
+#[derive(Clone, Copy, Debug, PartialEq, Eq)]
+pub(crate) enum Family {
+    Users,
+    Groups,
+}
+
+impl Family {
+    /// The other of the two.
+    pub(crate) fn other(self) -> Family {
+        match self {
+            Family::Users => Family::Groups,
+            Family::Groups => Family::Users,
+        }
+    }
+
+    /// The credentials' real, effective, saved and filesystem ID.
+    pub(crate) fn ids(self, credentials: &Credentials) -> [u32; 4] {
+        self.ids_mut(&mut credentials.clone()).map(|id| *id)
+    }
+
+    /// The same, to be changed.
+    pub(crate) fn ids_mut(self, credentials: &mut Credentials) -> [&mut u32; 4] {
+        let Credentials { ruid, euid, suid, fsuid, rgid, egid, sgid, fsgid, .. } = credentials;
+        match self {
+            Family::Users => [ruid, euid, suid, fsuid],
+            Family::Groups => [rgid, egid, sgid, fsgid],
+        }
+    }
+}
 
 /// One way in which credentials can be invalid ("What a thread carries").
 #[derive(Clone, Copy, Debug, PartialEq, Eq)]
@@ -27,19 +58,13 @@ pub(crate) enum Flaw {
     BoundingBit,
     /// A bit above 40 in the ambient set, and in the permitted and inheritable sets for it to be within.
     AmbientBit,
-    /// The real ID is 4294967295.
-    RealId,
-    /// The effective ID is 4294967295.
-    EffectiveId,
-    /// The saved ID is 4294967295.
-    SavedId,
-    /// The filesystem ID is 4294967295.
-    FilesystemId,
+    /// The real, effective, saved or filesystem ID, by its place, is 4294967295.
+    Id(Family, usize),
 }
 
 impl Flaw {
     /// All of them.
-    pub(crate) const ALL: [Flaw; 12] = [
+    pub(crate) const ALL: [Flaw; 16] = [
         Flaw::EffectiveOutsidePermitted,
         Flaw::AmbientOutsidePermitted,
         Flaw::AmbientOutsideInheritable,
@@ -48,25 +73,34 @@ impl Flaw {
         Flaw::EffectiveBit,
         Flaw::BoundingBit,
         Flaw::AmbientBit,
-        Flaw::RealId,
-        Flaw::EffectiveId,
-        Flaw::SavedId,
-        Flaw::FilesystemId,
+        Flaw::Id(Family::Users, 0),
+        Flaw::Id(Family::Users, 1),
+        Flaw::Id(Family::Users, 2),
+        Flaw::Id(Family::Users, 3),
+        Flaw::Id(Family::Groups, 0),
+        Flaw::Id(Family::Groups, 1),
+        Flaw::Id(Family::Groups, 2),
+        Flaw::Id(Family::Groups, 3),
     ];
 }
 
 /// Valid credentials.
 pub(crate) fn valid(random: &mut Random) -> Credentials {
-    let [ruid, euid, suid, fsuid] = ids(random);
+    let [ruid, euid, suid, fsuid] = ids(random, Family::Users);
+    let [rgid, egid, sgid, fsgid] = ids(random, Family::Groups);
     let permitted = permitted(random);
     let inheritable = inheritable(random, permitted);
-    let effective = if random.one_in(2) { permitted } else { sets::within(random, permitted) };
+    let effective = if random.one_in(3) { permitted } else { sets::within(random, permitted) };
     let ambient = sets::within(random, permitted & inheritable);
     Credentials {
         ruid,
         euid,
         suid,
         fsuid,
+        rgid,
+        egid,
+        sgid,
+        fsgid,
         permitted,
         inheritable,
         effective,
@@ -111,49 +145,53 @@ pub(crate) fn flawed(random: &mut Random, flaw: Flaw) -> Credentials {
             start.inheritable |= above;
             start.ambient |= above;
         }
-        Flaw::RealId => start.ruid = NO_ID,
-        Flaw::EffectiveId => start.euid = NO_ID,
-        Flaw::SavedId => start.suid = NO_ID,
-        Flaw::FilesystemId => start.fsuid = NO_ID,
+        Flaw::Id(family, place) => *family.ids_mut(&mut start)[place] = NO_ID,
     }
     start
 }
 
-/// A user ID: root, two users, the largest, or any.
-pub(crate) fn id(random: &mut Random) -> u32 {
+/// A user ID: root, two users, the largest, or any. A group ID likewise: 0, two groups, one of them with a user's number, the largest, or any.
+pub(crate) fn id(random: &mut Random, family: Family) -> u32 {
+    let [one, other] = match family {
+        Family::Users => [1000, 1001],
+        Family::Groups => [100, 1000],
+    };
     match random.below(16) {
         0..=5 => 0,
-        6..=9 => 1000,
-        10..=12 => 1001,
+        6..=9 => one,
+        10..=12 => other,
         13 => LARGEST_ID,
         14 => random.pick(&[1, 99, 65_534, 65_535, 65_536, 2_147_483_647, 2_147_483_648, 4_294_967_293]),
         _ => (random.number() as u32).min(LARGEST_ID),
     }
 }
 
-// Real, effective, saved, filesystem: one user throughout, two users, or each by itself.
-fn ids(random: &mut Random) -> [u32; 4] {
-    let one = id(random);
-    let other = id(random);
-    match random.below(10) {
+// Real, effective, saved, filesystem: one user or group throughout, two, or each by itself.
+fn ids(random: &mut Random, family: Family) -> [u32; 4] {
+    let one = id(random, family);
+    let other = id(random, family);
+    match random.below(11) {
         0..=2 => [one; 4],
         3 => [one, other, other, other],
         4 => [other, one, other, one],
         5 => [other, other, one, other],
-        6 => [other, other, other, one],
-        7 => [one, other, one, other],
-        _ => [one, other, id(random), id(random)],
+        6 | 7 => [other, other, other, one],
+        8 => [one, other, one, other],
+        _ => [one, other, id(random, family), id(random, family)],
     }
 }
 
-// The two capabilities that the calls ask for are permitted more often than others.
+// The three capabilities that the calls ask for are permitted more often than others; of the two for IDs now and then one without the other.
 fn permitted(random: &mut Random) -> u64 {
     let set = sets::any(random);
-    match random.below(6) {
+    match random.below(12) {
         0 => set | sets::SETUID,
-        1 => set | sets::SETPCAP,
-        2 => set & !sets::SETUID,
-        3 => set & !sets::SETPCAP,
+        1 => set | sets::SETGID,
+        2 | 3 => set | sets::SETPCAP,
+        4 => set & !sets::SETGID | sets::SETUID,
+        5 => set & !sets::SETUID | sets::SETGID,
+        6 => set & !(sets::SETUID | sets::SETGID),
+        7 | 8 => set & !sets::SETPCAP,
         _ => set,
     }
 }

@@ -3,7 +3,7 @@
 use crate::attributes;
 use crate::random::Random;
 use crate::sets;
-use crate::starts::{self, NO_ID};
+use crate::starts::{self, Family, NO_ID};
 use second::{Credentials, Step};
 
 /// Numbers just in and just out of the ranges that operands have.
@@ -30,9 +30,10 @@ const EDGES: [u64; 19] = [
 ];
 
 /// The calls, those with more rules more often. Call 13 is rare, for it leaves little to try afterwards.
-const CALLS: [u8; 52] = [
-    1, 1, 1, 1, 1, 1, 1, 1, 1, 1, 1, 1, 2, 2, 2, 2, 2, 3, 3, 4, 4, 5, 5, 5, 6, 6, 7, 7, 8, 9, 9, 9, 10, 11, 11, 12, 13,
-    14, 15, 15, 15, 16, 16, 16, 16, 17, 17, 17, 17, 17, 18, 18,
+const CALLS: [u8; 84] = [
+    1, 1, 1, 1, 1, 1, 1, 1, 1, 1, 1, 1, 1, 1, 1, 1, 1, 2, 2, 2, 2, 2, 3, 3, 4, 4, 5, 5, 5, 6, 6, 7, 7, 8, 9, 9, 9, 9,
+    10, 11, 11, 11, 11, 12, 13, 14, 15, 15, 15, 15, 16, 16, 16, 16, 16, 17, 17, 17, 17, 17, 17, 18, 18, 18, 18, 19, 19,
+    19, 20, 20, 20, 20, 20, 21, 21, 21, 21, 21, 21, 22, 22, 22, 22, 22,
 ];
 
 /// The four flags of securebits, without their locks.
@@ -68,11 +69,11 @@ impl Maker {
             5 => step.a = self.raised(random),
             6 | 7 => step.a = member_or_any(random, self.guess.ambient),
             9 => step.a = u64::from(self.securebits(random)),
-            11 => step.a = random.below(2) as u64,
+            11 => step.a = random.pick(&[0, 1, 1]),
             13 => step.a = 1,
-            15 => step.a = u64::from(self.id(random)),
-            16 | 17 => self.several_ids(random, &mut step),
-            18 => step.a = u64::from(self.id_or_none(random)),
+            15 | 19 => step.a = u64::from(self.id(random, family(call))),
+            16 | 17 | 20 | 21 => self.several_ids(random, &mut step),
+            18 | 22 => step.a = u64::from(self.id_or_none(random, family(call))),
             _ => {}
         }
         self.follow(&step);
@@ -80,13 +81,14 @@ impl Maker {
     }
 
     fn launch(&self, random: &mut Random, step: &mut Step) {
-        step.a = u64::from(self.id(random));
-        step.b = match random.below(12) {
+        step.a = u64::from(self.id(random, Family::Users));
+        step.c = u64::from(self.id(random, Family::Groups));
+        step.b = match random.below(14) {
             0..=2 => 0,
             3 | 4 => 1,
-            5 => 2,
-            6 | 7 => random.pick(&[4, 5, 8, 9, 16, 17]),
-            8 => 31,
+            5 | 6 => 2,
+            7..=9 => random.pick(&[4, 5, 6, 8, 9, 10, 16, 17, 18]),
+            10 => 31,
             _ => random.below(32) as u64,
         };
         step.attr = attributes::any(random, &self.guess);
@@ -137,35 +139,39 @@ impl Maker {
         }
     }
 
-    // One of the thread's own IDs, or any.
-    fn id(&self, random: &mut Random) -> u32 {
-        let Credentials { ruid, euid, suid, fsuid, .. } = self.guess;
-        if random.one_in(2) {
-            random.pick(&[ruid, euid, suid, fsuid])
-        } else {
-            starts::id(random)
+    // One of the thread's own IDs of that family, now and then of the other; or any.
+    fn id(&self, random: &mut Random, family: Family) -> u32 {
+        match random.below(20) {
+            0..=9 => self.own_id(random, family),
+            10 => self.own_id(random, family.other()),
+            _ => starts::id(random, family),
         }
     }
 
-    fn id_or_none(&self, random: &mut Random) -> u32 {
+    fn own_id(&self, random: &mut Random, family: Family) -> u32 {
+        random.pick(&family.ids(&self.guess))
+    }
+
+    fn id_or_none(&self, random: &mut Random, family: Family) -> u32 {
         if random.one_in(3) {
             NO_ID
         } else {
-            self.id(random)
+            self.id(random, family)
         }
     }
 
-    // Each given or left, or all left but one.
+    // Each given or left, all left but one, all the same, or all left.
     fn several_ids(&self, random: &mut Random, step: &mut Step) {
-        let count = if step.call == 16 { 2 } else { 3 };
+        let (family, count) = (family(step.call), operand_count(step.call));
         let mut operands = [u64::from(NO_ID); 3];
-        if random.one_in(3) {
-            operands[random.below(count)] = u64::from(self.id(random));
-        } else {
-            operands = operands.map(|_| u64::from(self.id_or_none(random)));
+        match random.below(20) {
+            0 => {}
+            1..=6 => operands[random.below(count)] = u64::from(self.id(random, family)),
+            7..=9 => operands = [u64::from(self.id(random, family)); 3],
+            _ => operands = operands.map(|_| u64::from(self.id_or_none(random, family))),
         }
         (step.a, step.b) = (operands[0], operands[1]);
-        if step.call == 17 {
+        if count == 3 {
             step.c = operands[2];
         }
     }
@@ -186,13 +192,19 @@ impl Maker {
             6 => guess.ambient &= !(1 << step.a),
             8 => guess.ambient = 0,
             9 => guess.securebits = step.a as u8,
-            15 => guess.euid = step.a as u32,
-            16 | 17 => {
-                set_unless_none(&mut guess.ruid, step.a);
-                set_unless_none(&mut guess.euid, step.b);
-            }
-            18 => set_unless_none(&mut guess.fsuid, step.a),
+            15..=22 => follow_ids(family(step.call).ids_mut(guess), step),
             _ => {}
+        }
+    }
+}
+
+fn follow_ids([real, effective, _, filesystem]: [&mut u32; 4], step: &Step) {
+    match step.call {
+        15 | 19 => *effective = step.a as u32,
+        18 | 22 => set_unless_none(filesystem, step.a),
+        _ => {
+            set_unless_none(real, step.a);
+            set_unless_none(effective, step.b);
         }
     }
 }
@@ -215,9 +227,9 @@ fn member_or_any(random: &mut Random, of: u64) -> u64 {
 fn unknown_call(random: &mut Random) -> u8 {
     match random.below(8) {
         0 | 1 => 0,
-        2 => 19,
+        2 => 23,
         3 => 99,
-        _ => 19 + random.below(81) as u8,
+        _ => 23 + random.below(77) as u8,
     }
 }
 
@@ -229,16 +241,25 @@ fn end_of_range(random: &mut Random, call: u8, place: usize) -> u64 {
         3..=7 => random.pick(&[40, 41, 63, 64]),
         9 => random.pick(&[255, 256]),
         11 | 13 => random.pick(&[0, 1, 2]),
-        1 | 15..=18 => random.pick(&[4_294_967_294, 4_294_967_295, 4_294_967_296]),
+        1 | 15..=22 => random.pick(&[4_294_967_294, 4_294_967_295, 4_294_967_296]),
         _ => random.pick(&EDGES),
+    }
+}
+
+// The family whose IDs one of the calls 15 to 22 sets.
+fn family(call: u8) -> Family {
+    if call < 19 {
+        Family::Users
+    } else {
+        Family::Groups
     }
 }
 
 // How many operands a call has; one for those that have none.
 fn operand_count(call: u8) -> usize {
     match call {
-        2 | 17 => 3,
-        1 | 16 => 2,
+        1 | 2 | 17 | 21 => 3,
+        16 | 20 => 2,
         _ => 1,
     }
 }

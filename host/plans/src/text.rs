@@ -6,12 +6,13 @@ use std::io::Write;
 
 const WRITES: &str = "writing to a vector does not fail";
 
-/// Adds the eleven lines of the sheet of `credentials`.
+/// Adds the fifteen lines of the sheet of `credentials`.
 pub fn write_sheet(text: &mut Vec<u8>, credentials: &Credentials) {
-    let Credentials { ruid, euid, suid, fsuid, permitted, inheritable, effective, bounding, ambient, .. } = credentials;
-    let securebits = credentials.securebits;
+    let Credentials { ruid, euid, suid, fsuid, rgid, egid, sgid, fsgid, .. } = credentials;
+    let Credentials { permitted, inheritable, effective, bounding, ambient, securebits, .. } = credentials;
     let nnp = u8::from(credentials.nnp);
     write!(text, "ruid={ruid}\neuid={euid}\nsuid={suid}\nfsuid={fsuid}\n").expect(WRITES);
+    write!(text, "rgid={rgid}\negid={egid}\nsgid={sgid}\nfsgid={fsgid}\n").expect(WRITES);
     write!(text, "permitted={permitted:016x}\ninheritable={inheritable:016x}\neffective={effective:016x}\n")
         .expect(WRITES);
     write!(text, "bounding={bounding:016x}\nambient={ambient:016x}\nsecurebits={securebits:02x}\nnnp={nnp}\n")
@@ -58,6 +59,10 @@ mod tests {
             euid: 1000,
             suid: 1000,
             fsuid: 1000,
+            rgid: 1000,
+            egid: 1000,
+            sgid: 1000,
+            fsgid: 1000,
             permitted: raw,
             inheritable: raw,
             effective: raw,
@@ -68,7 +73,7 @@ mod tests {
         };
         let launch = Step { call: 1, a: 0, b: 0, c: 0, attr: Vec::new() };
         let text = Plan { start, steps: vec![launch] }.text();
-        let expected = "ruid=1000\neuid=1000\nsuid=1000\nfsuid=1000\n\
+        let expected = "ruid=1000\neuid=1000\nsuid=1000\nfsuid=1000\nrgid=1000\negid=1000\nsgid=1000\nfsgid=1000\n\
             permitted=0000000000002000\ninheritable=0000000000002000\neffective=0000000000002000\n\
             bounding=000001ffffffffff\nambient=0000000000002000\nsecurebits=00\nnnp=0\n\
             call=1\na=0000000000000000\nb=0000000000000000\nc=0000000000000000\nattr=\n";

@@ -39,6 +39,10 @@ pub enum Fault {
     LineDoubled,
     /// A line exchanged with the next.
     LinesExchanged,
+    /// A sheet without the lines of its group IDs.
+    GroupsLost,
+    /// A sheet whose group IDs stand elsewhere: before the user IDs, among them, after the sets or at the end.
+    GroupsMoved,
     /// The text ends within a line.
     CutInLine,
     /// The text ends between two lines of the sheet or of a step.
@@ -65,7 +69,7 @@ pub enum Fault {
 
 impl Fault {
     /// All of them.
-    pub const ALL: [Fault; 29] = [
+    pub const ALL: [Fault; 31] = [
         Fault::NotADigit,
         Fault::UpperCase,
         Fault::LeadingZero,
@@ -84,6 +88,8 @@ impl Fault {
         Fault::LineLost,
         Fault::LineDoubled,
         Fault::LinesExchanged,
+        Fault::GroupsLost,
+        Fault::GroupsMoved,
         Fault::CutInLine,
         Fault::CutBetweenLines,
         Fault::LastNewlineLost,

@@ -3,7 +3,7 @@
 use super::Fault;
 use crate::random::Random;
 
-pub(super) const SHEET_LINES: usize = 11;
+pub(super) const SHEET_LINES: usize = 15;
 pub(super) const STEP_LINES: usize = 5;
 
 /// The form of a line's value.
@@ -27,10 +27,10 @@ impl Form {
     /// The form in the line at that place of a plan, counted from 0.
     pub(super) fn of_line(at: usize) -> Form {
         match at {
-            0..=3 => Form::Id,
-            4..=8 => Form::Mask,
-            9 => Form::Securebits,
-            10 => Form::Flag,
+            0..=7 => Form::Id,
+            8..=12 => Form::Mask,
+            13 => Form::Securebits,
+            14 => Form::Flag,
             _ => match (at - SHEET_LINES) % STEP_LINES {
                 0 => Form::Call,
                 4 => Form::Attribute,
@@ -90,7 +90,7 @@ fn with_byte(random: &mut Random, line: &[u8], byte: u8) -> Vec<u8> {
 fn with_wrong_key(random: &mut Random, line: &[u8]) -> Vec<u8> {
     let mut line = line.to_vec();
     let equals = line.iter().position(|byte| *byte == b'=').expect("a line has a key");
-    match random.below(9) {
+    match random.below(10) {
         0 | 1 => line[0] = line[0].to_ascii_uppercase(),
         2 => line[equals] = random.pick(b": \t-;>\n"),
         3 => line.insert(equals, random.pick(b" =sx")),
@@ -102,9 +102,19 @@ fn with_wrong_key(random: &mut Random, line: &[u8]) -> Vec<u8> {
         7 => {
             line.drain(..=equals);
         }
-        _ => line.splice(..equals, *b"uid").for_each(drop),
+        8 if line[..equals].ends_with(b"id") => line[equals - 3] = other_family(line[equals - 3]),
+        _ => line.splice(..equals, random.pick(&[*b"uid", *b"gid"])).for_each(drop),
     }
     line
+}
+
+// The letter that tells the key of a user ID from that of a group ID.
+fn other_family(letter: u8) -> u8 {
+    if letter == b'u' {
+        b'g'
+    } else {
+        b'u'
+    }
 }
 
 fn wrong_value(random: &mut Random, fault: Fault, form: Form, value: &[u8]) -> Vec<u8> {
@@ -168,6 +178,7 @@ fn too_large(random: &mut Random, form: Form) -> &'static str {
             "100",
             "101",
             "118",
+            "122",
             "256",
             "257",
             "65537",

@@ -20,6 +20,9 @@ pub(super) fn any(random: &mut Random) -> Operands {
     let file = attributes::file(random, &guess);
     let mut operands =
         Operands { permitted: file.permitted, inheritable: file.inheritable, effective: u64::from(file.effective) };
+    if random.one_in(100) {
+        (operands.permitted, operands.inheritable) = (sets::FULL, sets::FULL);
+    }
     match random.below(10) {
         0..=4 => {}
         5 => spoil_twice(random, &mut operands),

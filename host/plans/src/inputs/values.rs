@@ -3,21 +3,27 @@
 use super::{flawed, start};
 use crate::random::Random;
 use second::Credentials;
+use std::ops::Range;
 
 /// How many numbers a sheet has.
-pub const VALUES: usize = 11;
+pub const VALUES: usize = 15;
 
-const IDS: usize = 4;
-const SECUREBITS: usize = 9;
-const NNP: usize = 10;
+const IDS: usize = 8;
+const GROUPS: Range<usize> = 4..8;
+const SECUREBITS: usize = 13;
+const NNP: usize = 14;
 
-/// The eleven numbers of a sheet, in the order of its lines.
+/// The fifteen numbers of a sheet, in the order of its lines.
 pub fn values(credentials: &Credentials) -> [u64; VALUES] {
     [
         u64::from(credentials.ruid),
         u64::from(credentials.euid),
         u64::from(credentials.suid),
         u64::from(credentials.fsuid),
+        u64::from(credentials.rgid),
+        u64::from(credentials.egid),
+        u64::from(credentials.sgid),
+        u64::from(credentials.fsgid),
         credentials.permitted,
         credentials.inheritable,
         credentials.effective,
@@ -28,12 +34,12 @@ pub fn values(credentials: &Credentials) -> [u64; VALUES] {
     ]
 }
 
-/// Of twenty lists seven are those of valid credentials, four of others; nine have something that no credentials have.
+/// Of twenty lists six are those of valid credentials, five of others; nine have something that no credentials have.
 pub(super) fn any(random: &mut Random) -> Vec<u64> {
     let good = values(&start(random));
     match random.below(20) {
-        0..=6 => good.to_vec(),
-        7..=10 => values(&flawed(random)).to_vec(),
+        0..=5 => good.to_vec(),
+        6..=10 => values(&flawed(random)).to_vec(),
         11 => noise(random),
         12 => {
             let mut values = spoilt(random, good);
@@ -41,14 +47,14 @@ pub(super) fn any(random: &mut Random) -> Vec<u64> {
             values[at] = edge(random, values[at]);
             values.to_vec()
         }
-        13..=15 => spoilt(random, good).to_vec(),
+        13..=16 => spoilt(random, good).to_vec(),
         _ => of_another_count(random, &good),
     }
 }
 
 // The list with an ID, the securebits or the last number out of range.
 fn spoilt(random: &mut Random, mut values: [u64; VALUES]) -> [u64; VALUES] {
-    let at = match random.below(6) {
+    let at = match random.below(8) {
         0 => SECUREBITS,
         1 => NNP,
         _ => random.below(IDS),
@@ -60,8 +66,6 @@ fn spoilt(random: &mut Random, mut values: [u64; VALUES]) -> [u64; VALUES] {
         _ => random.pick(&[
             4_294_967_295,
             4_294_967_296,
-            4_294_967_296,
-            value + (1 << 32),
             value + (1 << 32),
             4_294_967_294 + (1 << 32),
             1 << 63,
@@ -91,21 +95,26 @@ fn edge(random: &mut Random, value: u64) -> u64 {
     ])
 }
 
-// The numbers cut, or with more behind them: zeros, the first again, or any. A few have a count that is right in its low 8 or 16 bits.
+// The numbers cut, or with more behind them: zeros, the first again, or any; or without the group IDs. A few have a count that is right in its
+// low 8 or 16 bits.
 fn of_another_count(random: &mut Random, values: &[u64; VALUES]) -> Vec<u64> {
-    let count = match random.below(12) {
+    let mut values = values.to_vec();
+    let count = match random.below(13) {
         0..=7 => random.below(VALUES),
         8 | 9 => VALUES + 1,
         10 => VALUES + 2,
-        _ => VALUES + random.pick(&[VALUES, 256, 256, 65_536]),
+        11 => VALUES + random.pick(&[VALUES, 256, 256, 65_536]),
+        _ => {
+            values.drain(GROUPS);
+            return values;
+        }
     };
     let more = random.pick(&[0, values[0], u64::MAX]);
-    let mut values = values.to_vec();
     values.resize(count, more);
     values
 }
 
-// 0 to 13 numbers of no kind, or of one.
+// 0 to 17 numbers of no kind, or of one.
 fn noise(random: &mut Random) -> Vec<u64> {
     let count = if random.one_in(2) { VALUES } else { random.below(VALUES + 3) };
     let small = random.one_in(3);
@@ -123,15 +132,19 @@ mod tests {
             euid: 2,
             suid: 3,
             fsuid: 4,
-            permitted: 5,
-            inheritable: 6,
-            effective: 7,
-            bounding: 8,
-            ambient: 9,
-            securebits: 10,
+            rgid: 5,
+            egid: 6,
+            sgid: 7,
+            fsgid: 8,
+            permitted: 9,
+            inheritable: 10,
+            effective: 11,
+            bounding: 12,
+            ambient: 13,
+            securebits: 14,
             nnp: true,
         };
-        assert_eq!(values(&credentials), [1, 2, 3, 4, 5, 6, 7, 8, 9, 10, 1]);
+        assert_eq!(values(&credentials), [1, 2, 3, 4, 5, 6, 7, 8, 9, 10, 11, 12, 13, 14, 1]);
     }
 
     #[test]
