@@ -10,7 +10,9 @@ mod ambient;
 mod attribute;
 mod bounding;
 mod capset;
+mod family;
 mod fixups;
+mod group_ids;
 mod ids;
 mod launching;
 mod moment;
@@ -33,6 +35,9 @@ pub use sheet::LONGEST as LONGEST_SHEET;
 pub use texts::Sight;
 pub use write_attribute::AttributeWrite;
 pub use write_sheet::SheetWrite;
+
+use family::Family;
+use operands::CALLS;
 
 /// A clause: its name, when it applies, and what has to be true then.
 pub struct Row<M> {
@@ -86,12 +91,15 @@ impl Table {
         calls.add(&[3, 4], bounding::rows());
         calls.add(&[5, 6, 7, 8], ambient::rows());
         calls.add(&[9, 10, 11, 12, 13, 14], securebits::rows());
-        calls.add(&[15, 16, 17, 18], ids::rows());
-        calls.add(&[15, 16, 17, 18], fixups::rows());
-        for call in 1..=18 {
+        calls.add(&Family::Users.calls(), ids::rows(Family::Users));
+        calls.add(&Family::Users.calls(), fixups::rows());
+        calls.add(&Family::Groups.calls(), ids::rows(Family::Groups));
+        calls.add(&Family::Groups.calls(), group_ids::rows());
+        for call in 1..=CALLS {
             calls.add(&[call], operands::rows_of_call(call));
         }
-        let no_calls: Vec<u8> = (0..=99).filter(|number| !(1..=18).contains(number)).collect();
+        calls.add(&[1], operands::rows_of_owner_and_group());
+        let no_calls: Vec<u8> = (0..=99).filter(|number| !(1..=CALLS).contains(number)).collect();
         calls.add(&no_calls, operands::rows_of_no_call());
         let of_call = calls.of_call;
         let calls = Group { first: 0, rows: calls.rows };

@@ -2,6 +2,7 @@
 
 use super::moment::{done, is_within, refused, CAP_SETPCAP};
 use super::{Moment, Row};
+use second::Credentials;
 
 // The four tests, true where they refuse.
 fn takes_beyond_permitted(m: &Moment) -> bool {
@@ -60,6 +61,15 @@ pub fn rows() -> Vec<Row<Moment>> {
             m.calls(2) && TESTS.iter().filter(|test| test(m)).count() > 1
         }),
         done("capset: done, sets as given", none_refuses, sets_are_those_given),
+        done(
+            "capset: nothing but P, I, E and A changes",
+            |m| none_refuses(m) && m.before.securebits != 0 && m.before.rgid != m.before.ruid,
+            |m| {
+                let (before, after) = (m.before.clone(), &m.answer.after);
+                let Credentials { permitted, inheritable, effective, ambient, .. } = *after;
+                *after == Credentials { permitted, inheritable, effective, ambient, ..before }
+            },
+        ),
         done(
             "capset: new I beyond I and P, by SETPCAP",
             |m| none_refuses(m) && !is_within(m.step.b, m.before.inheritable | m.before.permitted),

@@ -1,11 +1,13 @@
-//! "After an accepted ID call": rules 1 to 4, where each runs and what holds it back.
+//! "After an accepted ID call": rules 1 to 4, where each runs and what holds it back. They are those of calls 15 to 18.
 
-use super::ids::{ids_before, new_ids};
+use super::family::{Family, EFFECTIVE, FILESYSTEM};
 use super::moment::{KEEP_CAPS, NO_SETUID_FIXUP};
 use super::{Moment, Row};
 
 /// What setfsuid takes from E and gives it: CHOWN, DAC_OVERRIDE, DAC_READ_SEARCH, FOWNER, FSETID, LINUX_IMMUTABLE, MKNOD, MAC_OVERRIDE.
-const FILESYSTEM_SET: u64 = 0x0000_0001_0800_021f;
+pub const FILESYSTEM_SET: u64 = 0x0000_0001_0800_021f;
+
+const USERS: Family = Family::Users;
 
 /// The rows of the four rules.
 pub fn rows() -> Vec<Row<Moment>> {
@@ -20,17 +22,17 @@ pub fn rows() -> Vec<Row<Moment>> {
 
 // 1: one of real, effective and saved was 0 and none is now.
 fn leaves_root(m: &Moment) -> bool {
-    new_ids(m).is_some_and(|ids| ids_before(m)[..3].contains(&0) && !ids[..3].contains(&0))
+    USERS.leaves_0(m)
 }
 
 // 2, 3: the effective ID before and after is 0 or not.
 fn effective_goes(m: &Moment, from_0: bool, to_0: bool) -> bool {
-    new_ids(m).is_some_and(|ids| (ids_before(m)[1] == 0) == from_0 && (ids[1] == 0) == to_0)
+    USERS.goes(m, EFFECTIVE, from_0, to_0)
 }
 
 // 4: the filesystem ID likewise.
 fn filesystem_goes(m: &Moment, from_0: bool, to_0: bool) -> bool {
-    new_ids(m).is_some_and(|ids| (ids_before(m)[3] == 0) == from_0 && (ids[3] == 0) == to_0)
+    USERS.goes(m, FILESYSTEM, from_0, to_0)
 }
 
 fn sets_stay(m: &Moment) -> bool {
@@ -186,13 +188,15 @@ fn rows_of_rule_4() -> Vec<Row<Moment>> {
         ),
         Row::new(
             "Fix-up 4: among users",
-            move |m| runs(m) && filesystem_goes(m, false, false) && m.step.a != ids_before(m)[3] && has_some(m),
+            move |m| {
+                runs(m) && filesystem_goes(m, false, false) && m.step.a != USERS.before(m)[FILESYSTEM] && has_some(m)
+            },
             sets_stay,
         ),
         Row::new(
             "Fix-up 4: refused change of the filesystem ID",
             move |m| {
-                let asked = m.step.a != ids_before(m)[3] && m.step.a != 4_294_967_295;
+                let asked = m.step.a != USERS.before(m)[FILESYSTEM] && m.step.a != 4_294_967_295;
                 runs(m) && asked && filesystem_goes(m, true, true) && has_some(m)
             },
             sets_stay,

@@ -1,212 +1,276 @@
-//! Calls 15 to 18: which IDs they set, and who may.
+//! Calls 15 to 22: which IDs they set, and who may. Both families have the same rows; in the names SETUID stands for a family's capability.
 
-use super::moment::{done, refused, CAP_SETUID};
+use super::family::{Family, Ids, EFFECTIVE, FILESYSTEM, LEAVE, REAL, SAVED, SETFSUID, SETRESUID, SETREUID, SETUID};
+use super::validity::LARGEST_ID;
 use super::{Moment, Row};
 
-const LEAVE: u64 = 4_294_967_295;
-
-/// Real, effective, saved and filesystem ID.
-pub type Ids = [u64; 4];
-
-/// The IDs before a call.
-pub fn ids_before(m: &Moment) -> Ids {
-    let b = &m.before;
-    [b.ruid, b.euid, b.suid, b.fsuid].map(u64::from)
-}
-
-fn ids_after(m: &Moment) -> Ids {
-    let a = &m.answer.after;
-    [a.ruid, a.euid, a.suid, a.fsuid].map(u64::from)
-}
-
-/// The IDs that an ID call leaves; none if it is refused.
-pub fn new_ids(m: &Moment) -> Option<Ids> {
-    let [real, effective, saved, filesystem] = ids_before(m);
-    let privileged = m.has(CAP_SETUID);
-    let (a, b, c) = (m.step.a, m.step.b, m.step.c);
-    let may = |operand: u64, to: &[u64]| privileged || operand == LEAVE || to.contains(&operand);
-    let set = |operand: u64, old: u64| if operand == LEAVE { old } else { operand };
-    match m.step.call {
-        15 if privileged => Some([a, a, a, a]),
-        15 => (a == real || a == saved).then_some([real, a, saved, a]),
-        16 if may(a, &[real, effective]) && may(b, &[real, effective, saved]) => {
-            let effective = set(b, effective);
-            let moves = a != LEAVE || (b != LEAVE && b != real);
-            Some([set(a, real), effective, if moves { effective } else { saved }, effective])
-        }
-        17 if [a, b, c].iter().all(|operand| may(*operand, &[real, effective, saved])) => {
-            Some([set(a, real), set(b, effective), set(c, saved), set(b, effective)])
-        }
-        18 if a != LEAVE && may(a, &[real, effective, saved, filesystem]) => Some([real, effective, saved, a]),
-        18 => Some([real, effective, saved, filesystem]),
-        _ => None,
-    }
-}
-
-// A row of an accepted call: the IDs afterwards are those of `new_ids`.
-fn sets(name: &str, call: u8, when: impl Fn(&Moment) -> bool + Send + Sync + 'static) -> Row<Moment> {
-    let applies = move |m: &Moment| m.calls(call) && new_ids(m).is_some() && when(m);
-    done(name, applies, |m| Some(ids_after(m)) == new_ids(m))
-}
-
-// A row of a refused call.
-fn refuses(name: &str, call: u8, when: impl Fn(&Moment) -> bool + Send + Sync + 'static) -> Row<Moment> {
-    refused(name, move |m| m.calls(call) && !m.has(CAP_SETUID) && new_ids(m).is_none() && when(m))
-}
-
-fn real(m: &Moment) -> u64 {
-    ids_before(m)[0]
-}
-
-fn effective(m: &Moment) -> u64 {
-    ids_before(m)[1]
-}
-
-fn saved(m: &Moment) -> u64 {
-    ids_before(m)[2]
-}
-
-fn filesystem(m: &Moment) -> u64 {
-    ids_before(m)[3]
-}
-
-fn has_setuid(m: &Moment) -> bool {
-    m.has(CAP_SETUID)
-}
-
-// Whether the ID is that one of the thread's and none of its others among real, effective and saved.
-fn is_only(m: &Moment, id: u64, place: usize) -> bool {
-    let ids = ids_before(m);
-    (0..3).all(|at| (ids[at] == id) == (at == place))
-}
-
-/// The rows of the four calls.
-pub fn rows() -> Vec<Row<Moment>> {
-    let parts = [setuid(), setreuid(), setresuid(), setfsuid()];
-    parts.into_iter().flatten().collect()
-}
-
-fn setuid() -> Vec<Row<Moment>> {
-    vec![
-        sets("setuid: with SETUID, all four", 15, |m| has_setuid(m) && !ids_before(m).contains(&m.step.a)),
-        sets("setuid: with SETUID to the real ID, saved too", 15, |m| {
-            has_setuid(m) && m.step.a == real(m) && saved(m) != real(m)
-        }),
-        sets("setuid: without SETUID to the real ID", 15, |m| !has_setuid(m) && is_only(m, m.step.a, 0)),
-        sets("setuid: without SETUID to the saved ID", 15, |m| !has_setuid(m) && is_only(m, m.step.a, 2)),
-        refuses("setuid: refused, no ID of the thread's", 15, |m| !ids_before(m).contains(&m.step.a)),
-        refuses("setuid: refused, the effective ID alone", 15, |m| is_only(m, m.step.a, 1)),
-        refuses("setuid: refused, the filesystem ID alone", 15, |m| {
-            m.step.a == filesystem(m) && m.step.a != effective(m)
-        }),
-        refuses("setuid: refused, SETUID permitted but not in effect", 15, |m| m.before.permitted & CAP_SETUID != 0),
-    ]
-}
-
-fn setreuid() -> Vec<Row<Moment>> {
-    vec![
-        sets("setreuid: with SETUID, both to others", 16, |m| {
-            has_setuid(m) && m.step.a != LEAVE && m.step.b != LEAVE && !ids_before(m).contains(&m.step.a)
-        }),
-        sets("setreuid: without SETUID, real to the effective", 16, |m| !has_setuid(m) && is_only(m, m.step.a, 1)),
-        sets("setreuid: without SETUID, real to the real", 16, |m| !has_setuid(m) && is_only(m, m.step.a, 0)),
-        sets("setreuid: without SETUID, effective to the real", 16, |m| !has_setuid(m) && is_only(m, m.step.b, 0)),
-        sets("setreuid: without SETUID, effective to itself", 16, |m| !has_setuid(m) && is_only(m, m.step.b, 1)),
-        sets("setreuid: without SETUID, effective to the saved", 16, |m| !has_setuid(m) && is_only(m, m.step.b, 2)),
-        refuses("setreuid: refused, real to the saved", 16, |m| m.step.b == LEAVE && is_only(m, m.step.a, 2)),
-        refuses("setreuid: refused, real to another", 16, |m| m.step.b == LEAVE && !ids_before(m).contains(&m.step.a)),
-        refuses("setreuid: refused, effective to another", 16, |m| {
-            m.step.a == LEAVE && !ids_before(m).contains(&m.step.b)
-        }),
-        refuses("setreuid: refused, effective to the filesystem ID alone", 16, |m| {
-            m.step.a == LEAVE && m.step.b == filesystem(m)
-        }),
-        sets("setreuid: saved moved, real given", 16, |m| {
-            m.step.a != LEAVE && m.step.b == LEAVE && saved(m) != effective(m)
-        }),
-        sets("setreuid: saved moved, real given as it was", 16, |m| m.step.a == real(m) && saved(m) != effective(m)),
-        sets("setreuid: saved moved, effective given and not the old real", 16, |m| {
-            m.step.a == LEAVE && m.step.b != LEAVE && m.step.b != real(m) && saved(m) != m.step.b
-        }),
-        sets("setreuid: saved stays, effective given as the old real", 16, |m| {
-            m.step.a == LEAVE && m.step.b == real(m) && saved(m) != m.step.b
-        }),
-        sets("setreuid: saved stays, nothing given", 16, |m| {
-            m.step.a == LEAVE && m.step.b == LEAVE && saved(m) != effective(m)
-        }),
-        sets("setreuid: nothing given, filesystem becomes the effective", 16, |m| {
-            m.step.a == LEAVE && m.step.b == LEAVE && filesystem(m) != effective(m)
-        }),
-        sets("setreuid: saved is the new effective, not the old", 16, |m| {
-            m.step.a != LEAVE && m.step.b != LEAVE && m.step.b != effective(m)
-        }),
-    ]
-}
-
-fn setresuid() -> Vec<Row<Moment>> {
-    let mut rows = vec![
-        sets("setresuid: with SETUID, all to others", 17, |m| {
-            let given = [m.step.a, m.step.b, m.step.c];
-            has_setuid(m) && given.iter().all(|id| *id != LEAVE && !ids_before(m).contains(id))
-        }),
-        sets("setresuid: nothing given, filesystem becomes the effective", 17, |m| {
-            [m.step.a, m.step.b, m.step.c] == [LEAVE; 3] && filesystem(m) != effective(m)
-        }),
-        refuses("setresuid: refused, the filesystem ID alone", 17, |m| {
-            m.step.b == filesystem(m) && m.step.a == LEAVE && m.step.c == LEAVE
-        }),
-    ];
-    let names = ["real", "effective", "saved"];
-    for (place, name) in names.into_iter().enumerate() {
-        let operand = move |m: &Moment| [m.step.a, m.step.b, m.step.c][place];
-        for (to, to_name) in names.into_iter().enumerate() {
-            rows.push(sets(&format!("setresuid: without SETUID, {name} to the {to_name}"), 17, move |m| {
-                !has_setuid(m) && is_only(m, operand(m), to)
-            }));
-        }
-        rows.push(refuses(&format!("setresuid: refused, {name} alone to another"), 17, move |m| {
-            let given = [m.step.a, m.step.b, m.step.c];
-            (0..3).all(|at| (given[at] != LEAVE && !ids_before(m)[..3].contains(&given[at])) == (at == place))
-        }));
-        rows.push(sets(&format!("setresuid: {name} left"), 17, move |m| {
-            operand(m) == LEAVE && [m.step.a, m.step.b, m.step.c].iter().any(|id| *id != LEAVE)
-        }));
+/// The rows of a family's four calls.
+pub fn rows(family: Family) -> Vec<Row<Moment>> {
+    let parts = [setuid(family), setreuid(family), setresuid(family), setfsuid(family)];
+    let mut rows: Vec<Row<Moment>> = parts.into_iter().flatten().collect();
+    for call in [SETUID, SETREUID, SETRESUID, SETFSUID] {
+        rows.extend(rows_of_each(family, call));
     }
     rows
 }
 
-// Call 18 always answers the old filesystem ID.
-fn answers_old_id(m: &Moment) -> bool {
-    m.is_answered(filesystem(m)) && Some(ids_after(m)) == new_ids(m)
+// One of the four calls, as its rows see it.
+struct Request<'m> {
+    moment: &'m Moment,
+    ids: Ids,
+    // The IDs of the other family.
+    others: Ids,
+    // Operands a, b and c.
+    operands: [u64; 3],
+    has_setuid: bool,
 }
 
-fn setfsuid() -> Vec<Row<Moment>> {
-    let row = |name: &str, when: fn(&Moment) -> bool| {
-        Row::new(name, move |m: &Moment| m.calls(18) && when(m), answers_old_id)
-    };
-    let is_own = |m: &Moment| ids_before(m).contains(&m.step.a);
+impl Request<'_> {
+    fn of(family: Family, moment: &Moment) -> Request<'_> {
+        Request {
+            moment,
+            ids: family.before(moment),
+            others: family.other().before(moment),
+            operands: [moment.step.a, moment.step.b, moment.step.c],
+            has_setuid: moment.has(family.capability()),
+        }
+    }
+
+    fn a(&self) -> u64 {
+        self.operands[0]
+    }
+
+    fn b(&self) -> u64 {
+        self.operands[1]
+    }
+
+    fn real(&self) -> u64 {
+        self.ids[REAL]
+    }
+
+    fn effective(&self) -> u64 {
+        self.ids[EFFECTIVE]
+    }
+
+    fn saved(&self) -> u64 {
+        self.ids[SAVED]
+    }
+
+    fn filesystem(&self) -> u64 {
+        self.ids[FILESYSTEM]
+    }
+
+    fn is_own(&self, id: u64) -> bool {
+        self.ids.contains(&id)
+    }
+
+    // Whether the ID is the one at that place and none of the others among real, effective and saved.
+    fn is_only(&self, id: u64, place: usize) -> bool {
+        (REAL..=SAVED).all(|at| (self.ids[at] == id) == (at == place))
+    }
+
+    // Whether some ID is given and that is true of each that is.
+    fn all_given(&self, call: usize, is_so: impl Fn(u64) -> bool) -> bool {
+        let count = [1, 2, 3, 1][call];
+        let mut given = self.operands[..count].iter().filter(|id| **id != LEAVE).peekable();
+        given.peek().is_some() && given.all(|id| is_so(*id))
+    }
+}
+
+// Whether the family's capability is asked for, and missing. The last of the calls then says nothing and does nothing.
+fn is_denied(family: Family, m: &Moment) -> bool {
+    let is_silent = m.step.call == family.calls()[SETFSUID];
+    if is_silent {
+        !m.has(family.capability()) && m.step.a != LEAVE && !family.before(m).contains(&m.step.a)
+    } else {
+        family.new_ids(m).is_none()
+    }
+}
+
+fn named(family: Family, call: usize, name: &str) -> String {
+    format!("{}: {}", family.names()[call], name.replace("SETUID", family.capability_name()))
+}
+
+// The value of a call that is done: of the last, the old filesystem ID.
+fn value(family: Family, call: usize, m: &Moment) -> u64 {
+    if call == SETFSUID {
+        family.before(m)[FILESYSTEM]
+    } else {
+        0
+    }
+}
+
+// A row of an accepted call: the IDs afterwards are those that it leaves.
+fn sets(
+    family: Family,
+    call: usize,
+    name: &str,
+    when: impl Fn(&Request) -> bool + Send + Sync + 'static,
+) -> Row<Moment> {
+    Row::new(
+        named(family, call, name),
+        move |m: &Moment| m.calls(family.calls()[call]) && !is_denied(family, m) && when(&Request::of(family, m)),
+        move |m: &Moment| m.is_answered(value(family, call, m)) && family.are_set(m),
+    )
+}
+
+// A row of a call that is not allowed: it is refused with 1, but for the last, which answers as if it were done.
+fn denies(
+    family: Family,
+    call: usize,
+    name: &str,
+    when: impl Fn(&Request) -> bool + Send + Sync + 'static,
+) -> Row<Moment> {
+    let is_silent = call == SETFSUID;
+    let name = format!("{}, {name}", if is_silent { "not allowed" } else { "refused" });
+    Row::new(
+        named(family, call, &name),
+        move |m: &Moment| m.calls(family.calls()[call]) && is_denied(family, m) && when(&Request::of(family, m)),
+        move |m: &Moment| {
+            if is_silent {
+                m.is_answered(value(family, call, m)) && m.is_unchanged()
+            } else {
+                m.is_refused(1)
+            }
+        },
+    )
+}
+
+fn setuid(family: Family) -> Vec<Row<Moment>> {
+    let sets = |name: &str, when: fn(&Request) -> bool| sets(family, SETUID, name, when);
+    let denies = |name: &str, when: fn(&Request) -> bool| denies(family, SETUID, name, when);
     vec![
-        Row::new(
-            "setfsuid: 4294967295 asks",
-            |m: &Moment| m.calls(18) && m.step.a == LEAVE && filesystem(m) != 0,
-            |m| answers_old_id(m) && m.is_unchanged(),
-        ),
-        row("setfsuid: with SETUID to another", |m| has_setuid(m) && m.step.a != LEAVE && m.step.a != filesystem(m)),
-        row("setfsuid: without SETUID to the real ID", |m| !has_setuid(m) && is_only(m, m.step.a, 0)),
-        row("setfsuid: without SETUID to the effective ID", |m| !has_setuid(m) && is_only(m, m.step.a, 1)),
-        row("setfsuid: without SETUID to the saved ID", |m| !has_setuid(m) && is_only(m, m.step.a, 2)),
-        row("setfsuid: without SETUID to itself", |m| !has_setuid(m) && m.step.a == filesystem(m)),
-        Row::new(
-            "setfsuid: not allowed, answered with the old ID",
-            move |m: &Moment| m.calls(18) && m.step.a != LEAVE && !has_setuid(m) && !is_own(m),
-            |m| answers_old_id(m) && m.is_unchanged(),
-        ),
-        Row::new(
-            "setfsuid: not allowed, SETUID permitted but not in effect",
-            move |m: &Moment| {
-                m.calls(18) && m.step.a != LEAVE && !has_setuid(m) && !is_own(m) && m.before.permitted & CAP_SETUID != 0
-            },
-            |m| answers_old_id(m) && m.is_unchanged(),
-        ),
+        sets("with SETUID, all four", |r| r.has_setuid && !r.is_own(r.a())),
+        sets("with SETUID to the real ID, saved too", |r| r.has_setuid && r.a() == r.real() && r.saved() != r.real()),
+        sets("without SETUID to the real ID", |r| !r.has_setuid && r.is_only(r.a(), REAL)),
+        sets("without SETUID to the saved ID", |r| !r.has_setuid && r.is_only(r.a(), SAVED)),
+        denies("no ID of the thread's", |r| !r.is_own(r.a())),
+        denies("the effective ID alone", |r| r.is_only(r.a(), EFFECTIVE)),
+        denies("the filesystem ID alone", |r| r.a() == r.filesystem() && r.a() != r.effective()),
     ]
+}
+
+fn setreuid(family: Family) -> Vec<Row<Moment>> {
+    let sets = |name: &str, when: fn(&Request) -> bool| sets(family, SETREUID, name, when);
+    let denies = |name: &str, when: fn(&Request) -> bool| denies(family, SETREUID, name, when);
+    vec![
+        sets("with SETUID, both to others", |r| r.has_setuid && r.a() != LEAVE && r.b() != LEAVE && !r.is_own(r.a())),
+        sets("with SETUID, real left", |r| r.has_setuid && r.a() == LEAVE && r.b() != LEAVE && !r.is_own(r.b())),
+        sets("with SETUID, effective left", |r| r.has_setuid && r.b() == LEAVE && r.a() != LEAVE && !r.is_own(r.a())),
+        sets("without SETUID, real left", |r| !r.has_setuid && r.a() == LEAVE && r.b() != LEAVE),
+        sets("without SETUID, effective left", |r| !r.has_setuid && r.b() == LEAVE && r.a() != LEAVE),
+        sets("with SETUID, nothing given", |r| r.has_setuid && r.a() == LEAVE && r.b() == LEAVE),
+        sets("without SETUID, nothing given", |r| !r.has_setuid && r.a() == LEAVE && r.b() == LEAVE),
+        sets("without SETUID, real to the effective", |r| !r.has_setuid && r.is_only(r.a(), EFFECTIVE)),
+        sets("without SETUID, real to the real", |r| !r.has_setuid && r.is_only(r.a(), REAL)),
+        sets("without SETUID, effective to the real", |r| !r.has_setuid && r.is_only(r.b(), REAL)),
+        sets("without SETUID, effective to itself", |r| !r.has_setuid && r.is_only(r.b(), EFFECTIVE)),
+        sets("without SETUID, effective to the saved", |r| !r.has_setuid && r.is_only(r.b(), SAVED)),
+        denies("real to the saved", |r| r.b() == LEAVE && r.is_only(r.a(), SAVED)),
+        denies("real to another", |r| r.b() == LEAVE && !r.is_own(r.a())),
+        denies("effective to another", |r| r.a() == LEAVE && !r.is_own(r.b())),
+        denies("effective to the filesystem ID alone", |r| r.a() == LEAVE && r.b() == r.filesystem()),
+        denies("real alone is allowed", |r| r.a() == r.real() && !r.is_own(r.b())),
+        denies("effective alone is allowed", |r| r.b() == r.effective() && !r.is_own(r.a())),
+        sets("saved moved, real given", |r| r.a() != LEAVE && r.b() == LEAVE && r.saved() != r.effective()),
+        sets("saved moved, real given as it was", |r| r.a() == r.real() && r.saved() != r.effective()),
+        sets("saved moved, effective given and not the old real", |r| {
+            r.a() == LEAVE && r.b() != LEAVE && r.b() != r.real() && r.saved() != r.b()
+        }),
+        sets("saved stays, effective given as the old real", |r| {
+            r.a() == LEAVE && r.b() == r.real() && r.saved() != r.b()
+        }),
+        sets("saved stays, nothing given", |r| r.a() == LEAVE && r.b() == LEAVE && r.saved() != r.effective()),
+        sets("nothing given, filesystem becomes the effective", |r| {
+            r.a() == LEAVE && r.b() == LEAVE && r.filesystem() != r.effective()
+        }),
+        sets("saved is the new effective, not the old", |r| r.a() != LEAVE && r.b() != LEAVE && r.b() != r.effective()),
+    ]
+}
+
+fn setresuid(family: Family) -> Vec<Row<Moment>> {
+    let call = SETRESUID;
+    let mut rows = vec![
+        sets(family, call, "with SETUID, all to others", |r| {
+            r.has_setuid && r.operands.iter().all(|id| *id != LEAVE && !r.is_own(*id))
+        }),
+        sets(family, call, "with SETUID, nothing given", |r| r.has_setuid && r.operands == [LEAVE; 3]),
+        sets(family, call, "without SETUID, nothing given", |r| !r.has_setuid && r.operands == [LEAVE; 3]),
+        sets(family, call, "nothing given, filesystem becomes the effective", |r| {
+            r.operands == [LEAVE; 3] && r.filesystem() != r.effective()
+        }),
+        denies(family, call, "the filesystem ID alone", |r| r.all_given(SETRESUID, |id| id == r.filesystem())),
+    ];
+    let names = ["real", "effective", "saved"];
+    for (place, name) in names.into_iter().enumerate() {
+        for (to, to_name) in names.into_iter().enumerate() {
+            rows.push(sets(family, call, &format!("without SETUID, {name} to the {to_name}"), move |r| {
+                !r.has_setuid && r.is_only(r.operands[place], to)
+            }));
+        }
+        rows.push(denies(family, call, &format!("{name} alone to another"), move |r| {
+            let is_wrong = |at: usize| r.operands[at] != LEAVE && !r.ids[..3].contains(&r.operands[at]);
+            (0..3).all(|at| is_wrong(at) == (at == place))
+        }));
+        let is_left_alone = move |r: &Request| (0..3).all(|at| (r.operands[at] == LEAVE) == (at == place));
+        let is_given_alone = move |r: &Request| (0..3).all(|at| (r.operands[at] != LEAVE) == (at == place));
+        for (with, word) in [(true, "with"), (false, "without")] {
+            rows.push(sets(family, call, &format!("{word} SETUID, {name} alone left"), move |r| {
+                r.has_setuid == with && is_left_alone(r)
+            }));
+            rows.push(sets(family, call, &format!("{word} SETUID, {name} alone given"), move |r| {
+                r.has_setuid == with && is_given_alone(r)
+            }));
+        }
+    }
+    rows
+}
+
+fn setfsuid(family: Family) -> Vec<Row<Moment>> {
+    let sets = |name: &str, when: fn(&Request) -> bool| sets(family, SETFSUID, name, when);
+    let denies = |name: &str, when: fn(&Request) -> bool| denies(family, SETFSUID, name, when);
+    vec![
+        sets("4294967295 asks", |r| r.a() == LEAVE && r.filesystem() != 0),
+        sets("4294967295 asks, with SETUID", |r| r.a() == LEAVE && r.filesystem() != 0 && r.has_setuid),
+        sets("with SETUID to another", |r| r.has_setuid && r.a() != LEAVE && r.a() != r.filesystem()),
+        sets("without SETUID to the real ID", |r| !r.has_setuid && r.is_only(r.a(), REAL)),
+        sets("without SETUID to the effective ID", |r| !r.has_setuid && r.is_only(r.a(), EFFECTIVE)),
+        sets("without SETUID to the saved ID", |r| !r.has_setuid && r.is_only(r.a(), SAVED)),
+        sets("without SETUID to itself", |r| !r.has_setuid && r.a() == r.filesystem()),
+        denies("answered with the old ID", |r| r.filesystem() != 0),
+    ]
+}
+
+// What each of the calls has: whom it does not help, and what it has no part in.
+fn rows_of_each(family: Family, call: usize) -> Vec<Row<Moment>> {
+    let other = family.other();
+    let no_help = format!("{} in effect is no help", other.capability_name());
+    let without_other = format!("with SETUID and without {}", other.capability_name());
+    let mut rows = vec![
+        denies(family, call, "SETUID permitted but not in effect", move |r| {
+            r.moment.before.permitted & family.capability() != 0
+        }),
+        denies(family, call, &no_help, move |r| r.moment.has(other.capability())),
+        denies(family, call, &format!("one of the {}", other.ids_name()), move |r| {
+            r.all_given(call, |id| r.others.contains(&id) && !r.is_own(id))
+        }),
+        denies(family, call, "0", move |r| r.all_given(call, |id| id == 0 && !r.is_own(id))),
+        denies(family, call, "for the user 0 too", |r| r.moment.before.euid == 0),
+        sets(family, call, &without_other, move |r| {
+            r.has_setuid && !r.moment.has(other.capability()) && r.all_given(call, |id| !r.is_own(id))
+        }),
+        sets(family, call, "with SETUID to 4294967294", move |r| {
+            r.has_setuid && r.all_given(call, |id| id == LARGEST_ID) && r.effective() != LARGEST_ID
+        }),
+        sets(family, call, &format!("the {} stay", other.ids_name()), move |r| {
+            family.new_ids(r.moment).is_some_and(|ids| ids != r.ids && (0..4).all(|at| ids[at] != r.others[at]))
+        }),
+    ];
+    if call != SETFSUID {
+        rows.push(sets(family, call, "the filesystem ID follows the effective", move |r| {
+            let moves = |ids: Ids| ids[EFFECTIVE] != r.effective() && ids[EFFECTIVE] != r.filesystem();
+            family.new_ids(r.moment).is_some_and(moves)
+        }));
+    }
+    rows
 }

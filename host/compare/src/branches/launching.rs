@@ -1,5 +1,6 @@
 //! "Launching", a to f.
 
+mod groups;
 mod root;
 mod rows;
 
@@ -10,10 +11,10 @@ use second::{Credentials, Step};
 pub use rows::rows;
 
 // The flags of call 1.
-const SET_USER_ID: u64 = 1;
-const SET_GROUP_ID: u64 = 2;
-const NOSUID: u64 = 4;
-const TRACED: u64 = 8;
+pub const SET_USER_ID: u64 = 1;
+pub const SET_GROUP_ID: u64 = 2;
+pub const NOSUID: u64 = 4;
+pub const TRACED: u64 = 8;
 const NO_FILE_CAPS: u64 = 16;
 
 /// Why set-ID bits or an attribute are ignored.
@@ -31,14 +32,17 @@ pub struct Launch {
     set_user_id: bool,
     set_group_id: bool,
     owner: u32,
+    group: u32,
     reading: Reading,
     /// The attribute that is attached and not ignored.
     pub file: Option<File>,
     /// Whether its own permitted set is not all granted, by f.
     falls_short: bool,
     real: u32,
-    /// The effective ID after b.
+    /// The effective user ID after b.
     effective: u32,
+    /// The effective group ID after b.
+    effective_group: u32,
     noroot: bool,
 }
 
@@ -56,11 +60,13 @@ impl Launch {
             set_user_id: step.b & SET_USER_ID != 0,
             set_group_id: step.b & SET_GROUP_ID != 0,
             owner: step.a as u32,
+            group: step.c as u32,
             reading: read(&step.attr),
             file: None,
             falls_short: false,
             real: before.ruid,
             effective: before.euid,
+            effective_group: before.egid,
             noroot: before.securebits & NOROOT != 0,
         };
         if let Reading::File(file) = launch.reading {
@@ -69,6 +75,9 @@ impl Launch {
         }
         if launch.set_user_id && !launch.set_ids_are_ignored() {
             launch.effective = launch.owner;
+        }
+        if launch.set_group_id && !launch.set_ids_are_ignored() {
+            launch.effective_group = launch.group;
         }
         launch
     }

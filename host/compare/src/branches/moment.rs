@@ -4,6 +4,7 @@ use super::launching::Launch;
 use super::{operands, Row};
 use second::{Answer, Credentials, Step};
 
+pub const CAP_SETGID: u64 = 1 << 6;
 pub const CAP_SETUID: u64 = 1 << 7;
 pub const CAP_SETPCAP: u64 = 1 << 8;
 

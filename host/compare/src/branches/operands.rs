@@ -1,7 +1,11 @@
-//! "The eighteen calls" and refusal 22: which operands each call has, and what they may be.
+//! The twenty-two calls and refusal 22: which operands each call has, and what they may be.
 
+use super::launching::{NOSUID, SET_GROUP_ID, SET_USER_ID, TRACED};
 use super::{Moment, Row};
 use second::Step;
+
+/// How many calls there are; they are numbered from 1.
+pub const CALLS: u8 = 22;
 
 /// What an operand may be.
 #[derive(Clone, Copy, PartialEq, Eq)]
@@ -12,6 +16,7 @@ enum Operand {
     Securebits,
     Flags,
     Owner,
+    Group,
     Id,
     IdOrLeave,
     ZeroOrOne,
@@ -28,7 +33,7 @@ impl Operand {
             Set => value <= 0x1ff_ffff_ffff,
             Securebits => value <= 255,
             Flags => value <= 31,
-            Owner | Id => value <= 4_294_967_294,
+            Owner | Group | Id => value <= 4_294_967_294,
             IdOrLeave => value <= 4_294_967_295,
             ZeroOrOne => value <= 1,
             One => value == 1,
@@ -42,7 +47,7 @@ impl Operand {
             Capability => &[41, 63, 64],
             Securebits => &[256],
             Flags => &[32],
-            Owner | Id => &[4_294_967_295, 4_294_967_296],
+            Owner | Group | Id => &[4_294_967_295, 4_294_967_296],
             IdOrLeave => &[4_294_967_296],
             ZeroOrOne => &[2],
             One => &[0, 2],
@@ -57,6 +62,7 @@ impl Operand {
             Securebits => "securebits above 255",
             Flags => "flags above 31",
             Owner => "an owner above 4294967294",
+            Group => "a group above 4294967294",
             Id => "an ID above 4294967294",
             IdOrLeave => "an ID above 4294967295",
             ZeroOrOne => "above 1",
@@ -65,9 +71,9 @@ impl Operand {
     }
 }
 
-/// Operands a, b and c of calls 1 to 18.
-const OPERANDS: [[Operand; 3]; 18] = [
-    [Owner, Flags, Unused],
+/// Operands a, b and c of calls 1 to 22.
+const OPERANDS: [[Operand; 3]; CALLS as usize] = [
+    [Owner, Flags, Group],
     [Set, Set, Set],
     [Capability, Unused, Unused],
     [Capability, Unused, Unused],
@@ -81,6 +87,10 @@ const OPERANDS: [[Operand; 3]; 18] = [
     [Unused, Unused, Unused],
     [One, Unused, Unused],
     [Unused, Unused, Unused],
+    [Id, Unused, Unused],
+    [IdOrLeave, IdOrLeave, Unused],
+    [IdOrLeave, IdOrLeave, IdOrLeave],
+    [IdOrLeave, Unused, Unused],
     [Id, Unused, Unused],
     [IdOrLeave, IdOrLeave, Unused],
     [IdOrLeave, IdOrLeave, IdOrLeave],
@@ -106,13 +116,37 @@ pub fn rows_of_no_call() -> Vec<Row<Moment>> {
     };
     vec![
         row("22: 0 is no call", |call| call == 0),
-        row("22: 19 is no call", |call| call == 19),
+        row("22: 23 is no call", |call| call == 23),
         row("22: 99 is no call", |call| call == 99),
-        row("22: 20 to 98 are no calls", |call| (20..=98).contains(&call)),
+        row("22: 24 to 98 are no calls", |call| (24..=98).contains(&call)),
     ]
 }
 
-/// The rows of refusal 22 for one of the calls 1 to 18.
+/// The rows of refusal 22 for a file's owner and group, which are looked at whether the set-ID bits are there or not.
+pub fn rows_of_owner_and_group() -> Vec<Row<Moment>> {
+    let mut rows = Vec::new();
+    for (place, name, bit, bit_name) in
+        [(0, "owner", SET_USER_ID, "set-user-ID"), (2, "group", SET_GROUP_ID, "set-group-ID")]
+    {
+        for (given, with) in [(bit, "with"), (0, "without")] {
+            rows.push(Row::new(
+                format!("22: call 1, {name} above 4294967294 {with} {bit_name}"),
+                move |m: &Moment| only_fault(m, place) && m.step.b & bit == given,
+                |m| m.is_refused(22),
+            ));
+        }
+        rows.push(Row::new(
+            format!("22: call 1, {name} above 4294967294 under an ignored {bit_name}"),
+            move |m: &Moment| {
+                only_fault(m, place) && m.step.b & bit != 0 && (m.before.nnp || m.step.b & (NOSUID | TRACED) != 0)
+            },
+            |m| m.is_refused(22),
+        ));
+    }
+    rows
+}
+
+/// The rows of refusal 22 for one of the calls.
 pub fn rows_of_call(call: u8) -> Vec<Row<Moment>> {
     let operands = operands_of(call).expect("a call has operands");
     let mut rows = Vec::new();

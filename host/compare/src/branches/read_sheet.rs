@@ -1,11 +1,14 @@
-//! The sheet reader: 70, 72, 28 in that order, or the eleven values of a sheet.
+//! The sheet reader: 70, 72, 28 in that order, or the fifteen values of a sheet.
 
 use super::seen::{Seen, NO_ROOM};
-use super::sheet::{self, Reading, Values, KEYS, LINE_PAST_THE_SHEET};
+use super::sheet::{self, Reading, Values, IDS, KEYS, LINE_PAST_THE_SHEET, USERS};
 use super::texts::described;
 use super::validity::{self, is_valid};
 use super::Row;
 use plans::{Fault, Generated, Kind};
+use std::ops::Range;
+
+const GROUPS: usize = IDS.len() - USERS;
 
 /// A text, and what came back for it.
 pub struct SheetRead {
@@ -25,6 +28,11 @@ impl SheetRead {
 
     fn is_malformed_at(&self, line: u32) -> bool {
         self.reading == Reading::Malformed { line }
+    }
+
+    /// Whether it is malformed and its first so many lines are not.
+    fn is_malformed_past(&self, lines: usize) -> bool {
+        matches!(self.reading, Reading::Malformed { line } if line as usize > lines)
     }
 
     fn is_malformed(&self) -> bool {
@@ -66,9 +74,10 @@ impl SheetRead {
         matches!(self.generated.kind, Kind::Flawed(_) | Kind::Broken { valid: false, .. })
     }
 
-    /// Whether one of the first four lines ends as that of an ID of 4294967295.
-    fn has_no_id(&self) -> bool {
-        self.generated.text.split(|byte| *byte == b'\n').take(4).any(|line| line.ends_with(b"uid=4294967295"))
+    /// Whether one of the lines at those places ends as that of an ID of 4294967295.
+    fn has_no_id(&self, places: Range<usize>) -> bool {
+        let mut lines = self.generated.text.split(|byte| *byte == b'\n').skip(places.start).take(places.len());
+        lines.any(|line| line.ends_with(b"id=4294967295"))
     }
 
     fn has_steps(&self) -> bool {
@@ -133,7 +142,7 @@ fn rows_of_lines() -> Vec<Row<SheetRead>> {
 
 fn rows_past_the_sheet() -> Vec<Row<SheetRead>> {
     let past = |name: &str, when: fn(&SheetRead) -> bool| {
-        row(format!("70: line 12, {name}"), when, |s| s.seen.is_refused(70, LINE_PAST_THE_SHEET))
+        row(format!("70: line 16, {name}"), when, |s| s.seen.is_refused(70, LINE_PAST_THE_SHEET))
     };
     vec![
         past("text past the sheet", |s| s.is_malformed_at(LINE_PAST_THE_SHEET)),
@@ -175,8 +184,13 @@ fn rows_of_orders() -> Vec<Row<SheetRead>> {
             |s| s.seen.is_refused(70, LINE_PAST_THE_SHEET),
         ),
         row(
-            "70 comes before 72: past an ID of 4294967295",
-            |s| s.has_no_id() && s.is_malformed() && !(1..=4).any(|line| s.is_malformed_at(line)),
+            "70 comes before 72: past a user ID of 4294967295",
+            |s| s.has_no_id(0..USERS) && s.is_malformed_past(USERS),
+            SheetRead::is_as_read,
+        ),
+        row(
+            "70 comes before 72: past a group ID of 4294967295",
+            |s| s.has_no_id(USERS..IDS.len()) && s.is_malformed_past(IDS.len()),
             SheetRead::is_as_read,
         ),
         row("70 comes before 28", SheetRead::is_malformed, SheetRead::is_as_read),
@@ -203,8 +217,13 @@ fn rows_of_sheets() -> Vec<Row<SheetRead>> {
     let is_read = |s: &SheetRead| s.valid().is_some_and(|values| s.seen.is_done(values));
     let mut rows = vec![
         row("28: no place", is_valid, |s| s.seen.no_room == NO_ROOM),
-        row("28: ten places", is_valid, |s| s.seen.one_short == NO_ROOM),
-        row("0: eleven places", is_valid, |s| s.seen.exact.written() == KEYS.len()),
+        row("28: fourteen places", is_valid, |s| s.seen.one_short == NO_ROOM),
+        row(
+            "28: eleven places, as many as without group IDs",
+            move |s| is_valid(s) && s.seen.some.0 == KEYS.len() - GROUPS,
+            |s| s.seen.some.1 == NO_ROOM,
+        ),
+        row("0: fifteen places", is_valid, |s| s.seen.exact.written() == KEYS.len()),
         row("0: more places", is_valid, |s| s.seen.roomy.written() == KEYS.len()),
         row("0: written again, it is the text", is_valid, |s| s.again.as_ref() == Some(&s.generated.text)),
         row(

@@ -1,16 +1,16 @@
 //! "Sheet, plan and report" and the codes of a plan: 70, 72, 28 in that order.
 
-use super::sheet::{Values, KEYS};
-use super::validity::FLAWS_OF_TEXTS;
+use super::sheet::{Values, IDS, KEYS};
+use super::validity::{FLAWS_OF_TEXTS, LARGEST_ID};
 use super::Row;
-use plans::{Fault, Generated, Kind};
+use plans::{Fault, Generated, Kind, Plan};
 use urrezkalu::Outcome;
 
 /// The keys of a step's five lines.
 const STEP_KEYS: [&str; 5] = ["call", "a", "b", "c", "attr"];
-const SHEET_LINES: u32 = 11;
+const SHEET_LINES: u32 = 15;
 const STEP_LINES: u32 = 5;
-const LINE_OF_STEP_257: u32 = 1292;
+const LINE_OF_STEP_257: u32 = 1296;
 
 /// A text and what it came to in four buffers.
 pub struct Sight {
@@ -50,11 +50,16 @@ impl Sight {
         }
     }
 
-    fn steps(&self) -> Option<usize> {
+    /// A plan whose start is valid.
+    fn plan(&self) -> Option<&Plan> {
         match &self.generated.kind {
-            Kind::Runs(plan) => Some(plan.steps.len()),
+            Kind::Runs(plan) => Some(plan),
             _ => None,
         }
+    }
+
+    fn steps(&self) -> Option<usize> {
+        self.plan().map(|plan| plan.steps.len())
     }
 
     fn is_malformed_where_broken(&self) -> bool {
@@ -97,13 +102,13 @@ fn rows_of_lines() -> Vec<Row<Sight>> {
             }));
         }
     }
-    rows.push(malformed("70: in the first step".into(), |_, line| (12..=16).contains(&line)));
-    rows.push(malformed("70: in the second step".into(), |_, line| (17..=21).contains(&line)));
-    rows.push(malformed("70: in step 100 to 256".into(), |_, line| (507..=1291).contains(&line)));
-    rows.push(malformed("70: line 1292, step 257".into(), |s, line| {
+    rows.push(malformed("70: in the first step".into(), |_, line| (16..=20).contains(&line)));
+    rows.push(malformed("70: in the second step".into(), |_, line| (21..=25).contains(&line)));
+    rows.push(malformed("70: in step 100 to 256".into(), |_, line| (511..=1295).contains(&line)));
+    rows.push(malformed("70: line 1296, step 257".into(), |s, line| {
         line == LINE_OF_STEP_257 && s.fault() == Some(Fault::TooManySteps)
     }));
-    rows.push(malformed("70: line 1292, text after step 256".into(), |s, line| {
+    rows.push(malformed("70: line 1296, text after step 256".into(), |s, line| {
         line == LINE_OF_STEP_257 && s.fault() == Some(Fault::Appended)
     }));
     rows.push(malformed("70: after a sheet of no steps".into(), |s, line| {
@@ -165,6 +170,8 @@ pub fn described(fault: Fault) -> &'static str {
         Fault::LineLost => "line lost",
         Fault::LineDoubled => "line doubled",
         Fault::LinesExchanged => "lines exchanged",
+        Fault::GroupsLost => "no lines of group IDs",
+        Fault::GroupsMoved => "group IDs in another place",
         Fault::CutInLine => "cut within a line",
         Fault::CutBetweenLines => "cut between lines",
         Fault::LastNewlineLost => "last newline lost",
@@ -193,6 +200,11 @@ fn rows_of_starts() -> Vec<Row<Sight>> {
 fn rows_of_reports() -> Vec<Row<Sight>> {
     let runs = |s: &Sight| matches!(s.outcome, Outcome::Report { .. });
     let mut rows = Vec::new();
+    for place in IDS {
+        let is_the_largest = move |plan: &Plan| plans::values(&plan.start)[place] == LARGEST_ID;
+        let name = format!("0: {} 4294967294", KEYS[place]);
+        rows.push(Row::new(name, move |s: &Sight| s.plan().is_some_and(is_the_largest), runs));
+    }
     for count in [0, 1, 255, 256] {
         rows.push(Row::new(format!("0: {count} steps"), move |s: &Sight| s.steps() == Some(count), runs));
     }

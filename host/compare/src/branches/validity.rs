@@ -1,4 +1,4 @@
-//! "What a thread carries": the clauses of "Valid", over the eleven values of a sheet.
+//! "What a thread carries": the clauses of "Valid", over the fifteen values of a sheet.
 
 use super::sheet::{Kind, Values, AMBIENT, BOUNDING, EFFECTIVE, IDS, INHERITABLE, KEYS, PERMITTED, SECUREBITS};
 
@@ -10,7 +10,7 @@ pub const LARGEST_ID: u64 = 4_294_967_294;
 pub const LARGEST_SECUREBITS: u64 = 255;
 
 /// The clauses, each true where the values break it.
-const CLAUSES: [fn(&Values) -> bool; 13] = [
+const CLAUSES: [fn(&Values) -> bool; 17] = [
     |v| v[EFFECTIVE] & !v[PERMITTED] != 0,
     |v| v[AMBIENT] & !v[PERMITTED] != 0,
     |v| v[AMBIENT] & !v[INHERITABLE] != 0,
@@ -23,6 +23,10 @@ const CLAUSES: [fn(&Values) -> bool; 13] = [
     |v| v[IDS[1]] > LARGEST_ID,
     |v| v[IDS[2]] > LARGEST_ID,
     |v| v[IDS[3]] > LARGEST_ID,
+    |v| v[IDS[4]] > LARGEST_ID,
+    |v| v[IDS[5]] > LARGEST_ID,
+    |v| v[IDS[6]] > LARGEST_ID,
+    |v| v[IDS[7]] > LARGEST_ID,
     |v| v[SECUREBITS] > LARGEST_SECUREBITS,
 ];
 
@@ -35,7 +39,7 @@ pub struct Flaw {
 
 /// One for each clause that a text can break. A bit above 40 in E is in P too, for E to be within it; likewise with A. Two digits hold no
 /// securebits above 255.
-pub const FLAWS_OF_TEXTS: [Flaw; 12] = [
+pub const FLAWS_OF_TEXTS: [Flaw; 16] = [
     Flaw { name: "E outside P", broken: &[0] },
     Flaw { name: "A outside P, within I", broken: &[1] },
     Flaw { name: "A outside I, within P", broken: &[2] },
@@ -44,10 +48,14 @@ pub const FLAWS_OF_TEXTS: [Flaw; 12] = [
     Flaw { name: "bit above 40 in E and P", broken: &[3, 5] },
     Flaw { name: "bit above 40 in B", broken: &[6] },
     Flaw { name: "bit above 40 in A, P and I", broken: &[3, 4, 7] },
-    Flaw { name: "real ID above 4294967294", broken: &[8] },
-    Flaw { name: "effective ID above 4294967294", broken: &[9] },
-    Flaw { name: "saved ID above 4294967294", broken: &[10] },
-    Flaw { name: "filesystem ID above 4294967294", broken: &[11] },
+    Flaw { name: "real user ID above 4294967294", broken: &[8] },
+    Flaw { name: "effective user ID above 4294967294", broken: &[9] },
+    Flaw { name: "saved user ID above 4294967294", broken: &[10] },
+    Flaw { name: "filesystem user ID above 4294967294", broken: &[11] },
+    Flaw { name: "real group ID above 4294967294", broken: &[12] },
+    Flaw { name: "effective group ID above 4294967294", broken: &[13] },
+    Flaw { name: "saved group ID above 4294967294", broken: &[14] },
+    Flaw { name: "filesystem group ID above 4294967294", broken: &[15] },
 ];
 
 impl Flaw {
@@ -80,7 +88,7 @@ pub fn is_valid(values: &Values) -> bool {
 mod tests {
     use super::*;
 
-    const VALID: Values = [1000, 0, LARGEST_ID, 7, 0x2100, 0x2000, 0x100, FULL, 0x2000, 255, 1];
+    const VALID: Values = [1000, 0, LARGEST_ID, 7, 0, 100, 8, LARGEST_ID, 0x2100, 0x2000, 0x100, FULL, 0x2000, 255, 1];
 
     #[test]
     fn every_clause_but_the_securebits_has_a_flaw() {
@@ -98,6 +106,7 @@ mod tests {
         };
         assert!(FLAWS_OF_TEXTS[6].is_just_in(&with(BOUNDING, 1 << 41)));
         assert!(FLAWS_OF_TEXTS[10].is_just_in(&with(IDS[2], 4_294_967_295)));
+        assert!(FLAWS_OF_TEXTS[13].is_just_in(&with(IDS[5], 4_294_967_295)));
         assert!(!is_valid(&with(SECUREBITS, 256)));
         assert!(!is_valid(&with(EFFECTIVE, 0x2101)) && is_valid(&with(BOUNDING, 1 << 40)));
     }

@@ -1,7 +1,7 @@
-//! The sheet writer: 72, then 28, or the sheet of eleven values.
+//! The sheet writer: 72, then 28, or the sheet of fifteen values.
 
 use super::seen::{Answer, Seen, NO_ROOM};
-use super::sheet::{self, Values, IDS, KEYS, NNP, SECUREBITS};
+use super::sheet::{self, Values, IDS, KEYS, NNP, SECUREBITS, USERS};
 use super::validity::{self, is_valid, LARGEST_ID};
 use super::Row;
 
@@ -19,13 +19,19 @@ pub struct SheetWrite {
 impl SheetWrite {
     /// The numbers, what came back in each buffer, and what was read again if a sheet was written.
     pub fn new(values: Vec<u64>, seen: Seen<u8>, again: Option<Vec<u64>>) -> SheetWrite {
-        let sheet = eleven(&values).filter(|values| is_a_sheets(values)).map(sheet::text);
+        let sheet = fifteen(&values).filter(|values| is_a_sheets(values)).map(sheet::text);
         SheetWrite { values, sheet, seen, again }
     }
 
-    /// The numbers where there are eleven.
-    fn eleven(&self) -> Option<&Values> {
-        eleven(&self.values)
+    /// The numbers where there are fifteen.
+    fn fifteen(&self) -> Option<&Values> {
+        fifteen(&self.values)
+    }
+
+    /// The numbers with four group IDs put among them, where that makes fifteen.
+    fn with_groups(&self) -> Option<Values> {
+        let (users, rest) = self.values.split_at_checked(USERS)?;
+        [users, &[0; IDS.len() - USERS], rest].concat().try_into().ok()
     }
 
     fn has_sheet(&self) -> bool {
@@ -39,7 +45,7 @@ impl SheetWrite {
 
     /// Whether the numbers would be those of a sheet, but for the one at that place, of which this is true.
     fn is_only_wrong_at(&self, place: usize, is_so: impl Fn(u64) -> bool) -> bool {
-        let Some(values) = self.eleven() else { return false };
+        let Some(values) = self.fifteen() else { return false };
         let mut others = *values;
         others[place] = 0;
         is_a_sheets(&others) && is_so(values[place])
@@ -50,7 +56,7 @@ impl SheetWrite {
     }
 }
 
-fn eleven(values: &[u64]) -> Option<&Values> {
+fn fifteen(values: &[u64]) -> Option<&Values> {
     values.try_into().ok()
 }
 
@@ -79,14 +85,19 @@ pub fn rows() -> Vec<Row<SheetWrite>> {
 
 fn rows_of_counts() -> Vec<Row<SheetWrite>> {
     let mut rows = Vec::new();
-    for count in (0..=13).filter(|count| *count != KEYS.len()) {
+    for count in (0..=17).filter(|count| *count != KEYS.len()) {
         let has_so_many = move |s: &SheetWrite| s.values.len() == count;
         rows.push(row(format!("72: {count} numbers"), has_so_many, SheetWrite::is_invalid));
     }
-    rows.push(row("72: more than 13 numbers", |s| s.values.len() > 13, SheetWrite::is_invalid));
+    rows.push(row("72: more than 17 numbers", |s| s.values.len() > 17, SheetWrite::is_invalid));
+    rows.push(row(
+        "72: a sheet's numbers but for the group IDs",
+        |s| s.with_groups().as_ref().is_some_and(is_a_sheets),
+        SheetWrite::is_invalid,
+    ));
     rows.push(row(
         "72: a sheet's numbers and more behind them",
-        |s| s.eleven().is_none() && s.values.first_chunk().is_some_and(is_a_sheets),
+        |s| s.fifteen().is_none() && s.values.first_chunk().is_some_and(is_a_sheets),
         SheetWrite::is_invalid,
     ));
     rows
@@ -95,7 +106,7 @@ fn rows_of_counts() -> Vec<Row<SheetWrite>> {
 fn rows_of_flaws() -> Vec<Row<SheetWrite>> {
     let mut rows = Vec::new();
     for kind in validity::kinds() {
-        let applies = move |s: &SheetWrite| s.eleven().is_some_and(|values| values[NNP] <= 1 && (kind.holds)(values));
+        let applies = move |s: &SheetWrite| s.fifteen().is_some_and(|values| values[NNP] <= 1 && (kind.holds)(values));
         rows.push(row(format!("72: {}", kind.name), applies, SheetWrite::is_invalid));
     }
     rows.push(row("72 comes before 28", |s| !s.has_sheet(), SheetWrite::is_invalid));
@@ -135,7 +146,7 @@ fn rows_of_sheets() -> Vec<Row<SheetWrite>> {
         row("0: read again, it is the numbers", SheetWrite::has_sheet, |s| s.again.as_ref() == Some(&s.values)),
     ];
     for kind in sheet::kinds() {
-        let is_of_it = move |s: &SheetWrite| s.has_sheet() && s.eleven().is_some_and(&kind.holds);
+        let is_of_it = move |s: &SheetWrite| s.has_sheet() && s.fifteen().is_some_and(&kind.holds);
         rows.push(row(format!("0: {}", kind.name), is_of_it, SheetWrite::is_written));
     }
     rows

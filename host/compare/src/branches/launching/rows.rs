@@ -1,6 +1,6 @@
-//! The rows of "Launching", letter by letter; those of c are in `root`.
+//! The rows of "Launching", letter by letter; those of c are in `root`, those of the file's group in `groups`.
 
-use super::{own_gain, root, Cause, Launch, Reading};
+use super::{groups, own_gain, root, Cause, Launch, Reading};
 use crate::branches::moment::{is_within, KEEP_CAPS};
 use crate::branches::{Moment, Row};
 
@@ -8,7 +8,7 @@ const KEEP_CAPS_LOCK: u8 = 2 * KEEP_CAPS;
 
 /// All of them.
 pub fn rows() -> Vec<Row<Moment>> {
-    let parts = [ignored(), ids(), root::rows(), ambient(), sets(), missing()];
+    let parts = [ignored(), ids(), root::rows(), ambient(), sets(), missing(), groups::rows()];
     parts.into_iter().flatten().collect()
 }
 
@@ -26,8 +26,8 @@ pub fn done(
     Row::new(format!("Launching, {}", name.into()), applies, holds)
 }
 
-// A row of a launch that is refused with 1.
-fn refused(name: &str, when: impl Fn(&Moment, &Launch) -> bool + Send + Sync + 'static) -> Row<Moment> {
+/// A row of a launch that is refused with 1.
+pub fn refused(name: &str, when: impl Fn(&Moment, &Launch) -> bool + Send + Sync + 'static) -> Row<Moment> {
     let applies = move |m: &Moment| m.launch.as_ref().is_some_and(|l| l.is_refused() && when(m, l));
     Row::new(format!("Launching, {name}"), applies, |m: &Moment| m.is_refused(1))
 }
