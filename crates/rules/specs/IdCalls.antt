@@ -2,9 +2,10 @@
 -- proofs/IdCalls.antt. Assumes nothing.
 use Prim.Native.Nat.{ℕ, _-_, _≤_}
 use mathlib.Core.Path.{_≡_}
+use Rattle.capabilities.specs.Sets.{has}
+use Rattle.capabilities.specs.Header.{CAP-SETGID, CAP-SETUID}
 use Rattle.credentials.specs.Validity.{valid}
 use Rattle.credentials.specs.declared.Credentials.{Credentials}
-use Rattle.rules.specs.Ids.{maySetAnyGroupId, maySetAnyUserId}
 use Rattle.rules.specs.Run.{Step, result}
 
 -- calls 15 to 18, and calls 19 to 22, with whatever operands and attribute bytes
@@ -21,7 +22,7 @@ userIdCall x = record { number = x .number - 4; a = x .a; b = x .b; c = x .c; at
 -- d has for user IDs the group IDs of c, SETUID where c has SETGID, and is valid where c is
 pub record Counterpart (c d : Credentials) : Type 0 where
   pub ids : d .uids ≡ c .gids
-  pub may-set-any : maySetAnyUserId d ≡ maySetAnyGroupId c
+  pub may-set-any : has (d .sets .effective) CAP-SETUID ≡ has (c .sets .effective) CAP-SETGID
   pub valid-alike : valid d ≡ valid c
 
 -- of every credentials, valid or not, and every call
