@@ -251,38 +251,6 @@ module _ (c : Credentials) (v : Valid c) where
         setfsuid-right : one && idOrNone x ≡ true → NewValid (setfsuidOn any u x)
         setfsuid-right t = setfsuid-valid any u w x (and-r one (idOrNone x) t)
 
-      setuid-keeps : one && idInRange x ≡ true → Keeps false c (setuid c x)
-      unfolding setuid
-      setuid-keeps t = user-ids-keep (setuidOn (maySetAnyUserId c) (c .uids) x) (setuid-right (maySetAnyUserId c) (c .uids) (v .uids) t)
-
-      setreuid-keeps : two && idOrNone y ≡ true → Keeps false c (setreuid c x y)
-      unfolding setreuid
-      setreuid-keeps t = user-ids-keep (setreuidOn (maySetAnyUserId c) (c .uids) x y) (setreuid-right (maySetAnyUserId c) (c .uids) (v .uids) t)
-
-      setresuid-keeps : three && idOrNone z ≡ true → Keeps false c (setresuid c x y z)
-      unfolding setresuid
-      setresuid-keeps t = user-ids-keep (setresuidOn (maySetAnyUserId c) (c .uids) x y z) (setresuid-right (maySetAnyUserId c) (c .uids) (v .uids) t)
-
-      setfsuid-keeps : one && idOrNone x ≡ true → Keeps false c (setfsuid c x)
-      unfolding setfsuid
-      setfsuid-keeps t = filesystem-user-id-keeps (setfsuidOn (maySetAnyUserId c) (c .uids) x) (setfsuid-right (maySetAnyUserId c) (c .uids) (v .uids) t)
-
-      setgid-keeps : one && idInRange x ≡ true → Keeps false c (setgid c x)
-      unfolding setgid
-      setgid-keeps t = group-ids-keep (setuidOn (maySetAnyGroupId c) (c .gids) x) (setuid-right (maySetAnyGroupId c) (c .gids) (v .gids) t)
-
-      setregid-keeps : two && idOrNone y ≡ true → Keeps false c (setregid c x y)
-      unfolding setregid
-      setregid-keeps t = group-ids-keep (setreuidOn (maySetAnyGroupId c) (c .gids) x y) (setreuid-right (maySetAnyGroupId c) (c .gids) (v .gids) t)
-
-      setresgid-keeps : three && idOrNone z ≡ true → Keeps false c (setresgid c x y z)
-      unfolding setresgid
-      setresgid-keeps t = group-ids-keep (setresuidOn (maySetAnyGroupId c) (c .gids) x y z) (setresuid-right (maySetAnyGroupId c) (c .gids) (v .gids) t)
-
-      setfsgid-keeps : one && idOrNone x ≡ true → Keeps false c (setfsgid c x)
-      unfolding setfsgid
-      setfsgid-keeps t = filesystem-group-id-keeps (setfsuidOn (maySetAnyGroupId c) (c .gids) x) (setfsuid-right (maySetAnyGroupId c) (c .gids) (v .gids) t)
-
       launch-right : idInRange x && flagsInRange y && idInRange z ≡ true → Keeps true c (launch c x y z s)
       launch-right t =
           launch-keeps x y z
@@ -290,8 +258,10 @@ module _ (c : Credentials) (v : Valid c) where
           (leb-true z 4294967294 (and-r (idInRange x && flagsInRange y) (idInRange z) t)) s
 
       decode-keeps : (number : ℕ) → Goes (eqb number 1) (decode number x y z size)
-      unfolding decode
+      unfolding decode setuid setreuid setresuid setfsuid setgid setregid setresgid setfsgid
       decode-keeps number =
+          let user = maySetAnyUserId c in
+          let group = maySetAnyGroupId c in
           cond-with Goes (eqb number 1) _ _
           (when-known true _ _ launch-right)
           (or-else (eqb number 2) _ _ _ (λ t. capset-keeps x y z)
@@ -307,14 +277,14 @@ module _ (c : Credentials) (v : Valid c) where
           (or-else (eqb number 12) _ _ _ (λ t. get-keep-caps-keeps)
           (or-else (eqb number 13) _ _ _ (λ t. nnp-keeps)
           (or-else (eqb number 14) _ _ _ (λ t. get-nnp-keeps)
-          (or-else (eqb number 15) _ _ _ setuid-keeps
-          (or-else (eqb number 16) _ _ _ setreuid-keeps
-          (or-else (eqb number 17) _ _ _ setresuid-keeps
-          (or-else (eqb number 18) _ _ _ setfsuid-keeps
-          (or-else (eqb number 19) _ _ _ setgid-keeps
-          (or-else (eqb number 20) _ _ _ setregid-keeps
-          (or-else (eqb number 21) _ _ _ setresgid-keeps
-          (or-else (eqb number 22) _ _ _ setfsgid-keeps
+          (or-else (eqb number 15) _ _ _ (λ t. user-ids-keep (setuidOn user (c .uids) x) (setuid-right user (c .uids) (v .uids) t))
+          (or-else (eqb number 16) _ _ _ (λ t. user-ids-keep (setreuidOn user (c .uids) x y) (setreuid-right user (c .uids) (v .uids) t))
+          (or-else (eqb number 17) _ _ _ (λ t. user-ids-keep (setresuidOn user (c .uids) x y z) (setresuid-right user (c .uids) (v .uids) t))
+          (or-else (eqb number 18) _ _ _ (λ t. filesystem-user-id-keeps (setfsuidOn user (c .uids) x) (setfsuid-right user (c .uids) (v .uids) t))
+          (or-else (eqb number 19) _ _ _ (λ t. group-ids-keep (setuidOn group (c .gids) x) (setuid-right group (c .gids) (v .gids) t))
+          (or-else (eqb number 20) _ _ _ (λ t. group-ids-keep (setreuidOn group (c .gids) x y) (setreuid-right group (c .gids) (v .gids) t))
+          (or-else (eqb number 21) _ _ _ (λ t. group-ids-keep (setresuidOn group (c .gids) x y z) (setresuid-right group (c .gids) (v .gids) t))
+          (or-else (eqb number 22) _ _ _ (λ t. filesystem-group-id-keeps (setfsuidOn group (c .gids) x) (setfsuid-right group (c .gids) (v .gids) t))
           tt)))))))))))))))))))))
 
     pub answer-keeps : (number x y z : ℕ) → Keeps (eqb number 1) c (answer c number x y z s)
