@@ -1,7 +1,7 @@
 -- The ID calls on user IDs and on group IDs beside each other. Assumes nothing.
 use Prim.Native.Nat.{ℕ, _+_, _-_, _<_, _≤_}
-use mathlib.Core.Path.{_≡_, refl, sym, ap, _∙_, subst}
-use mathlib.Core.Bool.{Bool, true, false, cond, _&&_, false≢true, true≢false}
+use mathlib.Core.Path.{_≡_, refl, sym, ap, subst}
+use mathlib.Core.Bool.{Bool, true, false, cond, _&&_}
 use mathlib.Core.List.{List}
 use native.Mathlib.Decide.{decLt}
 use native.Mathlib.Omega.{arith}
@@ -17,7 +17,7 @@ use Rattle.rules.specs.Ids.{filesystemGroupIdChanged, filesystemUserIdCh
 use Rattle.rules.specs.Decoding.{decode, known}
 use Rattle.rules.specs.Call.{answer, decoded, performed}
 use Rattle.rules.specs.Run.{Step, result}
-use Rattle.rules.specs.IdCalls.{Counterpart, IdCalls, OnGroupIds, OnUserIds, userIdCall}
+use Rattle.rules.specs.IdCalls.{Counterpart, IdCalls, OnGroupIds}
 use Rattle.rules.specs.declared.Answer.{Answer}
 use Rattle.rules.specs.declared.Answer.the-variants.{InvalidArgument, InvalidCredentials}
 use Rattle.rules.specs.declared.Call.{Call}

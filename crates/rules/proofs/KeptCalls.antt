@@ -6,7 +6,7 @@ use mathlib.Core.List.{List}
 use native.Mathlib.Omega.{arith}
 use lib.Dec.{eqb}
 use lib.ListN.{length}
-use borrow.Author.Tests.{eqb-false, leb-true, not-true}
+use borrow.Author.Tests.{leb-true}
 use Rattle.capabilities.specs.Sets.{lacks, union, minus, single, Within}
 use Rattle.capabilities.specs.Header.{CAP-SETPCAP}
 use Rattle.capabilities.proofs.Inclusion.{and-l, and-r, minus-sub, none-sub, not-lacks, not-outside, or-false-l, or-false-r, single-sub, sub-refl, union-sub}

@@ -1,5 +1,5 @@
--- "The eighteen calls" and four more on group IDs, and refusal 22 of "What comes back": which numbers, operands and attributes make a call. Assumes
--- nothing.
+-- "The eighteen calls", the four of "Group IDs on the sheet", and refusal 22 of "What comes back": which numbers, operands and attributes make a call.
+-- Assumes nothing.
 use Prim.Native.Nat.{ℕ}
 use mathlib.Core.Bool.{Bool, cond, _&&_}
 use lib.Dec.{eqb, leb}

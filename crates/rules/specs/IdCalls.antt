@@ -1,6 +1,6 @@
 -- The ID calls on user IDs and on group IDs beside each other ("Group IDs on the sheet"): one statement, IdCalls, at the end. Proved in
 -- proofs/IdCalls.antt. Assumes nothing.
-use Prim.Native.Nat.{ℕ, _-_, _≤_}
+use Prim.Native.Nat.{_-_, _≤_}
 use mathlib.Core.Path.{_≡_}
 use Rattle.capabilities.specs.Sets.{has}
 use Rattle.capabilities.specs.Header.{CAP-SETGID, CAP-SETUID}

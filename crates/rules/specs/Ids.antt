@@ -1,6 +1,6 @@
--- "The other rules", the ID calls: 15 to 18, setuid(2), setreuid(2), setresuid(2), setfsuid(2), and by the same rules 19 to 22, setgid(2), setregid(2),
--- setresgid(2), setfsgid(2). What an ID call allows and gives is a matter of four IDs and of whether it may set any; what follows for the sets is of
--- user IDs alone. Assumes nothing.
+-- "The other rules", the ID calls 15 to 18: setuid(2), setreuid(2), setresuid(2), setfsuid(2); and "Group IDs on the sheet", by the same rules 19 to
+-- 22: setgid(2), setregid(2), setresgid(2), setfsgid(2). What an ID call allows and gives is a matter of four IDs and of whether it may set any; what
+-- follows for the sets is of user IDs alone. Assumes nothing.
 use Prim.Native.Nat.{ℕ}
 use mathlib.Core.Bool.{Bool, cond, not, _&&_, _||_}
 use lib.Dec.{eqb}
@@ -43,7 +43,7 @@ setuidAllowed any u id = any || eqb id (u .real) || eqb id (u .saved)
 unfoldable pub setuidIds : Bool → Ids → ℕ → Ids
 setuidIds any u id = record { real = cond any id (u .real); effective = id; saved = cond any id (u .saved); filesystem = id }
 
--- setuid on four IDs
+-- setuid on four IDs, user or group: the new ones, or not allowed
 unfoldable pub setuidOn : Bool → Ids → ℕ → NewIds
 setuidOn any u id = cond (setuidAllowed any u id) (Allowed (setuidIds any u id)) NotAllowed
 

@@ -66,7 +66,7 @@ launchedIds force id u =
 abbrev pub launchedUids : Credentials → ℕ → ℕ → Ids
 launchedUids c owner flags = launchedIds (inForce (c .nnp) flags SET-USER-ID) owner (c .uids)
 
--- b: the group IDs likewise, by the set-group-ID bit and the file's group
+-- b: the group IDs likewise ("Group IDs on the sheet"), by the set-group-ID bit and the file's group
 abbrev pub launchedGids : Credentials → ℕ → ℕ → Ids
 launchedGids c flags group = launchedIds (inForce (c .nnp) flags SET-GROUP-ID) group (c .gids)
 

@@ -13,7 +13,7 @@ use Rattle.rules.specs.Fields.{number}
 use Rattle.format.specs.Line.{bytes, Kind, hexText, decimalText, keyedText, lineText, linesText}
 use Rattle.format.specs.Sheet.{idKinds, uidKinds, gidKinds, setKinds, flagKinds, sheetKinds, sheetText, idValues, setValues, flagValues, sheetValues}
 use Rattle.format.proofs.Lengths.{length-hex, length-one, length-keyed}
-use Rattle.line_writer.specs.Inside.{Put, linesPut}
+use Rattle.line_writer.specs.Inside.{linesPut}
 use Rattle.line_writer.proofs.LineLaws.{lines-grouped}
 
 text-grouped : (ks ls : List Kind) (vs ws : List ℕ) → length ks ≡ length vs → linesText (ks ++ ls) (vs ++ ws) ≡ linesText ks vs ++ linesText ls ws
