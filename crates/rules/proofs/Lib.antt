@@ -1,5 +1,6 @@
 pub mod Cases
 pub mod Conditions
+pub mod CallsOnIds
 pub mod FilesystemId
 pub mod KeptIds
 pub mod KeptSets
@@ -7,5 +8,4 @@ pub mod KeptSecurebits
 pub mod KeptCalls
 pub mod OneLaunch
 pub mod Demand3
-pub mod IdCalls
 pub mod Flags

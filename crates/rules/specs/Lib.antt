@@ -12,4 +12,4 @@ pub mod Call
 pub mod Run
 pub mod Cases
 pub mod Demand3
-pub mod IdCalls
+pub mod CallsOnIds

@@ -17,7 +17,7 @@ use Rattle.rules.specs.Ids.{filesystemGroupIdChanged, filesystemUserIdCh
 use Rattle.rules.specs.Decoding.{decode, known}
 use Rattle.rules.specs.Call.{answer, decoded, performed}
 use Rattle.rules.specs.Run.{Step, result}
-use Rattle.rules.specs.IdCalls.{Counterpart, IdCalls, OnGroupIds}
+use Rattle.rules.specs.CallsOnIds.{Counterpart, CallsOnIds, OnGroupIds}
 use Rattle.rules.specs.declared.Answer.{Answer}
 use Rattle.rules.specs.declared.Answer.the-variants.{InvalidArgument, InvalidCredentials}
 use Rattle.rules.specs.declared.Call.{Call}
@@ -213,9 +213,9 @@ like : (c d : Credentials) (w : Counterpart c d) (x : Step) → OnGroupIds x
     → Same c d w (answer c (x .number) (x .a) (x .b) (x .c) (x .attribute)) (answer d (x .number - 4) (x .a) (x .b) (x .c) (x .attribute))
 like c d w x n = as-user-ids c d w (x .a) (x .b) (x .c) (x .attribute) (x .number) (n .0) (n .1)
 
-pub id-calls : IdCalls
+pub calls-on-ids : CallsOnIds
 unfolding result
-id-calls =
+calls-on-ids =
     record {
       sets-stay = λ c x n. stays c x n .sets;
       user-ids-stay = λ c x n. stays c x n .uids;

@@ -1,5 +1,5 @@
--- The ID calls on user IDs and on group IDs beside each other ("Group IDs on the sheet"): one statement, IdCalls, at the end. Proved in
--- proofs/IdCalls.antt. Assumes nothing.
+-- The ID calls on user IDs and on group IDs beside each other ("Group IDs on the sheet"): one statement, CallsOnIds, at the end. Proved in
+-- proofs/CallsOnIds.antt. Assumes nothing.
 use Prim.Native.Nat.{_-_, _≤_}
 use mathlib.Core.Path.{_≡_}
 use Rattle.capabilities.specs.Sets.{has}
@@ -26,7 +26,7 @@ pub record Counterpart (c d : Credentials) : Type 0 where
   pub valid-alike : valid d ≡ valid c
 
 -- of every credentials, valid or not, and every call
-pub record IdCalls : Type 0 where
+pub record CallsOnIds : Type 0 where
   -- calls 19 to 22 change no capability set,
   pub sets-stay : (c : Credentials) (x : Step) → OnGroupIds x → result c x .after .sets ≡ c .sets
   -- no user ID,
