@@ -61,7 +61,7 @@ pub(crate) fn file(random: &mut Random, guess: &Credentials) -> File {
         _ => sets::any(random),
     };
     let granted = guess.inheritable & inheritable;
-    let permitted = match random.below(8) {
+    let permitted = match random.below(10) {
         0 => 0,
         1 => guess.bounding,
         2 => sets::within(random, guess.bounding | granted),
@@ -69,6 +69,8 @@ pub(crate) fn file(random: &mut Random, guess: &Credentials) -> File {
         4 => sets::near(random, guess.bounding | granted),
         5 => sets::single(random),
         6 => sets::near(random, granted),
+        7 => sets::within(random, guess.inheritable & !guess.bounding),
+        8 => sets::within(random, sets::FULL & !guess.bounding),
         _ => sets::any(random),
     };
     File { permitted, inheritable, effective }

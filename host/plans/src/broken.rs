@@ -145,7 +145,8 @@ fn any_line(random: &mut Random, count: usize) -> usize {
 fn fault_in_a_line(random: &mut Random, fault: Fault, text: &[u8]) -> (Vec<u8>, usize) {
     let lines = split(text);
     let at = loop {
-        let at = any_line(random, lines.len());
+        // The last two lines of a sheet are the only ones of their forms.
+        let at = if random.one_in(6) { SHEET_LINES - 1 - random.below(2) } else { any_line(random, lines.len()) };
         if line::can_have(Form::of_line(at), fault) {
             break at;
         }

@@ -115,8 +115,8 @@ fn step_count(random: &mut Random) -> usize {
         0..=4 => 0,
         5..=19 => 1,
         20..=49 => 2 + random.below(6),
-        50..=97 => 2 + random.below(27),
-        98 => 29 + random.below(MOST_STEPS - 29),
+        50..=97 => 2 + random.below(30),
+        98 => 32 + random.below(MOST_STEPS - 32),
         _ => random.pick(&[MOST_STEPS - 1, MOST_STEPS]),
     }
 }

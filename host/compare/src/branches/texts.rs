@@ -163,6 +163,7 @@ pub fn described(fault: Fault) -> &'static str {
         Fault::LongAttribute => "attribute of more than 48 digits",
         Fault::Blank => "blank in a value",
         Fault::WrongKey => "wrong key",
+        Fault::OtherFamily => "user ID's key for a group ID, or the other way round",
         Fault::CarriageReturn => "carriage return",
         Fault::Nul => "zero byte",
         Fault::NotAscii => "byte above 127",

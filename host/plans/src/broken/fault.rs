@@ -25,6 +25,8 @@ pub enum Fault {
     Blank,
     /// Another key, or none.
     WrongKey,
+    /// The key of a group ID where a user ID's has to be, or the other way round.
+    OtherFamily,
     /// A carriage return before the newline.
     CarriageReturn,
     /// A zero byte in a line.
@@ -69,7 +71,7 @@ pub enum Fault {
 
 impl Fault {
     /// All of them.
-    pub const ALL: [Fault; 31] = [
+    pub const ALL: [Fault; 32] = [
         Fault::NotADigit,
         Fault::UpperCase,
         Fault::LeadingZero,
@@ -81,6 +83,7 @@ impl Fault {
         Fault::LongAttribute,
         Fault::Blank,
         Fault::WrongKey,
+        Fault::OtherFamily,
         Fault::CarriageReturn,
         Fault::Nul,
         Fault::NotAscii,

@@ -58,6 +58,7 @@ pub(super) fn can_have(form: Form, fault: Fault) -> bool {
         Fault::TooLarge => form.is_decimal() || form == Form::Flag,
         Fault::NoDigits => form != Form::Attribute,
         Fault::LongAttribute => form == Form::Attribute,
+        Fault::OtherFamily => form == Form::Id,
         _ => true,
     }
 }
@@ -66,6 +67,7 @@ pub(super) fn can_have(form: Form, fault: Fault) -> bool {
 pub(super) fn changed(random: &mut Random, fault: Fault, form: Form, line: &[u8]) -> Vec<u8> {
     match fault {
         Fault::WrongKey => with_wrong_key(random, line),
+        Fault::OtherFamily => with_key_of_the_other_family(line),
         Fault::CarriageReturn => [&line[..line.len() - 1], b"\r\n"].concat(),
         Fault::Nul => with_byte(random, line, 0),
         Fault::NotAscii => {
@@ -90,7 +92,7 @@ fn with_byte(random: &mut Random, line: &[u8], byte: u8) -> Vec<u8> {
 fn with_wrong_key(random: &mut Random, line: &[u8]) -> Vec<u8> {
     let mut line = line.to_vec();
     let equals = line.iter().position(|byte| *byte == b'=').expect("a line has a key");
-    match random.below(10) {
+    match random.below(9) {
         0 | 1 => line[0] = line[0].to_ascii_uppercase(),
         2 => line[equals] = random.pick(b": \t-;>\n"),
         3 => line.insert(equals, random.pick(b" =sx")),
@@ -102,19 +104,18 @@ fn with_wrong_key(random: &mut Random, line: &[u8]) -> Vec<u8> {
         7 => {
             line.drain(..=equals);
         }
-        8 if line[..equals].ends_with(b"id") => line[equals - 3] = other_family(line[equals - 3]),
         _ => line.splice(..equals, random.pick(&[*b"uid", *b"gid"])).for_each(drop),
     }
     line
 }
 
-// The letter that tells the key of a user ID from that of a group ID.
-fn other_family(letter: u8) -> u8 {
-    if letter == b'u' {
-        b'g'
-    } else {
-        b'u'
-    }
+// The line of a user ID with the key of the group ID, or the other way round: the letter before "id" tells them apart.
+fn with_key_of_the_other_family(line: &[u8]) -> Vec<u8> {
+    let mut line = line.to_vec();
+    let equals = line.iter().position(|byte| *byte == b'=').expect("a line has a key");
+    let letter = &mut line[equals - 3];
+    *letter = if *letter == b'u' { b'g' } else { b'u' };
+    line
 }
 
 fn wrong_value(random: &mut Random, fault: Fault, form: Form, value: &[u8]) -> Vec<u8> {
@@ -186,6 +187,6 @@ fn too_large(random: &mut Random, form: Form) -> &'static str {
             "18446744073709551617",
             "340282366920938463463374607431768211457",
         ]),
-        _ => random.pick(&["2", "3", "9", "10", "11", "256", "257"]),
+        _ => random.pick(&["2", "2", "2", "3", "9", "10", "11", "256", "257"]),
     }
 }
