@@ -1,5 +1,6 @@
 -- The credential sheet ("Sheet, plan and report"), and what its reader and its writer answer ("What comes back"). Assumes nothing.
 use Prim.Native.Nat.{ℕ, _+_}
+use Prim.Native.String.{String}
 use mathlib.Core.List.{List, [], _∷_, _++_}
 use mathlib.Core.Bool.{Bool, cond, _&&_}
 use lib.Dec.{leb, eqb}
@@ -14,20 +15,21 @@ use Rattle.format.specs.declared.SheetReading.{SheetReading}
 use Rattle.format.specs.declared.SheetReading.the-variants.{Sheet, Malformed, Invalid}
 use Rattle.format.specs.Line.{bytes, Kind, kind, decimal, hex, linesText, Read, read, faultAt, mapped, readLines}
 
--- a real, an effective, a saved and a filesystem ID under these keys: decimal up to 4294967295
-abbrev idKind : List ℕ → Kind
-idKind key = record { key = key; form = decimal 4294967295 }
+-- an ID's line: decimal up to 4294967295; the letter in its key is that of users or of groups
+abbrev idKind : String → List ℕ → Kind
+idKind which letter = record { key = bytes which ++ (letter ++ bytes "id="); form = decimal 4294967295 }
 
-unfoldable pub idKinds : List ℕ → List ℕ → List ℕ → List ℕ → List Kind
-idKinds real effective saved filesystem = idKind real ∷ idKind effective ∷ idKind saved ∷ idKind filesystem ∷ []
+-- a real, an effective, a saved and a filesystem ID
+unfoldable pub idKinds : List ℕ → List Kind
+idKinds letter = idKind "r" letter ∷ idKind "e" letter ∷ idKind "s" letter ∷ idKind "fs" letter ∷ []
 
--- the user IDs
+-- the user IDs: ruid, euid, suid, fsuid
 unfoldable pub uidKinds : List Kind
-uidKinds = idKinds (bytes "ruid=") (bytes "euid=") (bytes "suid=") (bytes "fsuid=")
+uidKinds = idKinds (bytes "u")
 
--- the group IDs
+-- the group IDs: rgid, egid, sgid, fsgid
 unfoldable pub gidKinds : List Kind
-gidKinds = idKinds (bytes "rgid=") (bytes "egid=") (bytes "sgid=") (bytes "fsgid=")
+gidKinds = idKinds (bytes "g")
 
 -- the capability sets: 16 hex digits
 unfoldable pub setKinds : List Kind

@@ -55,28 +55,25 @@ struct FlagLines {
     place: Place,
 }
 
-// The lines of four IDs at a place, under these keys.
-fn read_ids(
-    text: &[u8],
-    place: Place,
-    real: &[u8],
-    effective: &[u8],
-    saved: &[u8],
-    filesystem: &[u8],
-) -> IdLines
-    ensures { λ r. ⌜ linesAt (idKinds (now (real .entry)) (now (effective .entry)) (now (saved .entry)) (now (filesystem .entry))) (now (text .entry)) place ≡ record { values = idValues (r .ids); place = r .place } ⌝ }
+// The lines of four IDs at a place, by the letter in their keys: u for users, g for groups.
+fn read_ids(text: &[u8], place: Place, letter: u8) -> IdLines
+    ensures { λ r. ⌜ linesAt (idKinds (letter ∷ [])) (now (text .entry)) place ≡ record { values = idValues (r .ids); place = r .place } ⌝ }
 {
-    let first = read_decimal(text, place, real, LARGEST_WRITTEN_ID);
-    let second = read_decimal(text, first.place, effective, LARGEST_WRITTEN_ID);
-    let third = read_decimal(text, second.place, saved, LARGEST_WRITTEN_ID);
-    let fourth = read_decimal(text, third.place, filesystem, LARGEST_WRITTEN_ID);
+    let real_key = [b'r', letter, b'i', b'd', b'='];
+    let real = read_decimal(text, place, &real_key, LARGEST_WRITTEN_ID);
+    let effective_key = [b'e', letter, b'i', b'd', b'='];
+    let effective = read_decimal(text, real.place, &effective_key, LARGEST_WRITTEN_ID);
+    let saved_key = [b's', letter, b'i', b'd', b'='];
+    let saved = read_decimal(text, effective.place, &saved_key, LARGEST_WRITTEN_ID);
+    let filesystem_key = [b'f', b's', letter, b'i', b'd', b'='];
+    let filesystem = read_decimal(text, saved.place, &filesystem_key, LARGEST_WRITTEN_ID);
     let ids = Ids {
-        real: first.value,
-        effective: second.value,
-        saved: third.value,
-        filesystem: fourth.value,
+        real: real.value,
+        effective: effective.value,
+        saved: saved.value,
+        filesystem: filesystem.value,
     };
-    let place = fourth.place;
+    let place = filesystem.place;
     IdLines { ids, place }
 }
 
@@ -123,12 +120,12 @@ pub fn read_front(text: &[u8]) -> Front
         lines: 0,
         fault: false,
     };
-    let users = read_ids(text, start, b"ruid=", b"euid=", b"suid=", b"fsuid=");
+    let users = read_ids(text, start, b'u');
     let past_users = users.place;
     if past_users.fault {
         return Front::Fault(past_users.lines);
     }
-    let groups = read_ids(text, past_users, b"rgid=", b"egid=", b"sgid=", b"fsgid=");
+    let groups = read_ids(text, past_users, b'g');
     let past_groups = groups.place;
     if past_groups.fault {
         return Front::Fault(past_groups.lines);

@@ -3,7 +3,7 @@ use native.Mathlib.Omega.{arith}
 use mathlib.Core.Path.{_≡_, refl, sym, ap, _∙_}
 use mathlib.Core.List.{List, [], _∷_, _++_, append-assoc, append-nil}
 use mathlib.Core.Bool.{Bool, true, false}
-use Prim.Native.Nat.{ℕ, _+_, _-_}
+use Prim.Native.Nat.{ℕ, _+_, _*_}
 use lib.ListN.{length, length-append}
 use lib.Seq.{sets}
 use Rattle.credentials.specs.declared.Ids.{Ids}
@@ -53,13 +53,13 @@ unfolding number
 flag-length true = length-one 1 (omega arith)
 flag-length false = length-one 0 (omega arith)
 
--- four IDs under keys of so many bytes together
+-- the digits of four IDs
 abbrev pub digits : Ids → ℕ
 digits u = length (decimalText (u .real)) + length (decimalText (u .effective)) + length (decimalText (u .saved)) + length (decimalText (u .filesystem))
 
-ids-length : (r e s f : List ℕ) (u : Ids) → length (linesText (idKinds r e s f) (idValues u)) ≡ length r + length e + length s + length f + 4 + digits u
+ids-length : (letter : List ℕ) (u : Ids) → length (linesText (idKinds letter) (idValues u)) ≡ 21 + 4 * length letter + digits u
 unfolding linesText idKinds
-ids-length r e s f u = simp (append-nil, length-append, length-keyed) (omega arith)
+ids-length letter u = simp (append-nil, length-append, length-keyed) (omega arith)
 
 sets-length : (s : Sets) → length (linesText setKinds (setValues s)) ≡ 134
 sets-length s = ap length (sets-text s) ∙ simp (length-append, length-keyed, length-hex)

@@ -3,6 +3,7 @@
 // The sheet itself is defined in the crate `format`. Every function is proved, for every argument: no public one has a `requires`. The crate
 // assumes nothing.
 ghost use mathlib.Core.Path.{_≡_};
+ghost use mathlib.Core.List.{[], _∷_};
 ghost use Prim.Native.Nat.{_+_, _≤_};
 ghost use lib.ListN.{length};
 ghost use Rattle.attribute.specs.Writer.{refused};
@@ -90,28 +91,24 @@ fn refused(code: u8) -> Written
 fn write_lines(buf: &mut [u8], at: usize, held: Credentials) -> usize
     ensures { λ r. ⌜ (r ≡ linesPut sheetKinds (sheetValues held) (now (buf .entry)) at .at) × (now (buf .exit) ≡ linesPut sheetKinds (sheetValues held) (now (buf .entry)) at .buffer) ⌝ }
 {
-    let p = write_ids(buf, at, held.uids, b"ruid=", b"euid=", b"suid=", b"fsuid=");
-    let q = write_ids(buf, p, held.gids, b"rgid=", b"egid=", b"sgid=", b"fsgid=");
+    let p = write_ids(buf, at, held.uids, b'u');
+    let q = write_ids(buf, p, held.gids, b'g');
     let u = write_sets(buf, q, held.sets);
     write_flags(buf, u, held.securebits, held.nnp)
 }
 
-// The lines of four IDs, under these keys.
-fn write_ids(
-    buf: &mut [u8],
-    at: usize,
-    ids: Ids,
-    real: &[u8],
-    effective: &[u8],
-    saved: &[u8],
-    filesystem: &[u8],
-) -> usize
-    ensures { λ r. ⌜ (r ≡ linesPut (idKinds (now (real .entry)) (now (effective .entry)) (now (saved .entry)) (now (filesystem .entry))) (idValues ids) (now (buf .entry)) at .at) × (now (buf .exit) ≡ linesPut (idKinds (now (real .entry)) (now (effective .entry)) (now (saved .entry)) (now (filesystem .entry))) (idValues ids) (now (buf .entry)) at .buffer) ⌝ }
+// The lines of four IDs, by the letter in their keys: u for users, g for groups.
+fn write_ids(buf: &mut [u8], at: usize, ids: Ids, letter: u8) -> usize
+    ensures { λ r. ⌜ (r ≡ linesPut (idKinds (letter ∷ [])) (idValues ids) (now (buf .entry)) at .at) × (now (buf .exit) ≡ linesPut (idKinds (letter ∷ [])) (idValues ids) (now (buf .entry)) at .buffer) ⌝ }
 {
-    let p = write_decimal(buf, at, real, ids.real);
-    let q = write_decimal(buf, p, effective, ids.effective);
-    let u = write_decimal(buf, q, saved, ids.saved);
-    write_decimal(buf, u, filesystem, ids.filesystem)
+    let real_key = [b'r', letter, b'i', b'd', b'='];
+    let p = write_decimal(buf, at, &real_key, ids.real);
+    let effective_key = [b'e', letter, b'i', b'd', b'='];
+    let q = write_decimal(buf, p, &effective_key, ids.effective);
+    let saved_key = [b's', letter, b'i', b'd', b'='];
+    let u = write_decimal(buf, q, &saved_key, ids.saved);
+    let filesystem_key = [b'f', b's', letter, b'i', b'd', b'='];
+    write_decimal(buf, u, &filesystem_key, ids.filesystem)
 }
 
 // The lines of the capability sets.

@@ -2,21 +2,8 @@
 use mathlib.Core.Path.{sym, _∙_}
 use Rattle.format.specs.Sheet.{uidKinds, gidKinds}
 use Rattle.sheet_reader.proofs.Groups.{users-at-fault, groups-at-fault, sets-at-fault, front-at-fault, front-valid, front-invalid}
-use borrow.Author.Needs.{needs}
 use Rattle.sheet_reader.proofs.read_front.Statement.{statement}
 use Rattle.sheet_reader.proofs.read_front.Tie as tie
-
-slice-aggregate-read-ids : tie.Need-slice-aggregate-read-ids
-slice-aggregate-read-ids c = search needs
-
-slice-aggregate-read-ids-2 : tie.Need-slice-aggregate-read-ids-2
-slice-aggregate-read-ids-2 c = search needs
-
-slice-aggregate-read-ids-3 : tie.Need-slice-aggregate-read-ids-3
-slice-aggregate-read-ids-3 c = search needs
-
-slice-aggregate-read-ids-4 : tie.Need-slice-aggregate-read-ids-4
-slice-aggregate-read-ids-4 c = search needs
 
 read-ids-requires : tie.Need-read-ids-requires
 read-ids-requires c κs = tt
@@ -25,18 +12,6 @@ returns : tie.Need-returns
 unfolding uidKinds
 returns c = users-at-fault _ _ _ (c .before .before .read-ids .ensures) (c .if1 .taken)
 
-slice-aggregate-read-ids-5 : tie.Need-slice-aggregate-read-ids-5
-slice-aggregate-read-ids-5 c = search needs
-
-slice-aggregate-read-ids-6 : tie.Need-slice-aggregate-read-ids-6
-slice-aggregate-read-ids-6 c = search needs
-
-slice-aggregate-read-ids-7 : tie.Need-slice-aggregate-read-ids-7
-slice-aggregate-read-ids-7 c = search needs
-
-slice-aggregate-read-ids-8 : tie.Need-slice-aggregate-read-ids-8
-slice-aggregate-read-ids-8 c = search needs
-
 read-ids-requires-2 : tie.Need-read-ids-requires-2
 read-ids-requires-2 c κs = tt
 
@@ -44,7 +19,7 @@ returns-2 : tie.Need-returns-2
 unfolding uidKinds gidKinds
 returns-2 c =
     let groups = c .before .before in
-    let users = groups .before .before .before .before .before .before .before in
+    let users = groups .before .before .before in
     groups-at-fault _ _ _ (users .read-ids .ensures) _ _ (groups .read-ids2 .ensures) (c .if2 .taken)
 
 read-sets-requires : tie.Need-read-sets-requires
@@ -55,7 +30,7 @@ unfolding uidKinds gidKinds
 returns-3 c =
     let sets = c .before .before in
     let groups = sets .before .before .before in
-    let users = groups .before .before .before .before .before .before .before in
+    let users = groups .before .before .before in
     sets-at-fault _ _ _ (users .read-ids .ensures) _ _ (groups .read-ids2 .ensures) _ _ (sets .read-sets .ensures) (c .if3 .taken)
 
 read-flags-requires : tie.Need-read-flags-requires
@@ -67,7 +42,7 @@ returns-4 c =
     let flags = c .before .before in
     let sets = flags .before .before .before in
     let groups = sets .before .before .before in
-    let users = groups .before .before .before .before .before .before .before in
+    let users = groups .before .before .before in
     front-at-fault _ _ _ _ _ _ _ _ _ _ (users .read-ids .ensures) (groups .read-ids2 .ensures) (sets .read-sets .ensures) (flags .read-flags .ensures)
     (c .if4 .taken)
 
@@ -80,7 +55,7 @@ returns-5 c =
     let flags = c .before .before .before .before .before .before .before .before in
     let sets = flags .before .before .before in
     let groups = sets .before .before .before in
-    let users = groups .before .before .before .before .before .before .before in
+    let users = groups .before .before .before in
     front-valid _ _ _ _ _ _ _ _ _ _ (users .read-ids .ensures) (groups .read-ids2 .ensures) (sets .read-sets .ensures) (flags .read-flags .ensures)
     (c .before .before .before .before .before .before .if4 .left) (sym (c .if5 .taken) ∙ c .before .is-valid .ensures)
 
@@ -90,7 +65,7 @@ returns-6 c =
     let flags = c .before .before .before .before .before .before .before .before in
     let sets = flags .before .before .before in
     let groups = sets .before .before .before in
-    let users = groups .before .before .before .before .before .before .before in
+    let users = groups .before .before .before in
     front-invalid _ _ _ _ _ _ _ _ _ _ (users .read-ids .ensures) (groups .read-ids2 .ensures) (sets .read-sets .ensures) (flags .read-flags .ensures)
     (c .before .before .before .before .before .before .if4 .left) (sym (c .if5 .left) ∙ c .before .is-valid .ensures)
 
@@ -98,16 +73,8 @@ pub read-front-spec : {M : Type 1} → statement M
 read-front-spec =
     tie.close
     (tie.spec
-    slice-aggregate-read-ids
-    slice-aggregate-read-ids-2
-    slice-aggregate-read-ids-3
-    slice-aggregate-read-ids-4
     read-ids-requires
     returns
-    slice-aggregate-read-ids-5
-    slice-aggregate-read-ids-6
-    slice-aggregate-read-ids-7
-    slice-aggregate-read-ids-8
     read-ids-requires-2
     returns-2
     read-sets-requires
