@@ -6,7 +6,6 @@ use mathlib.Core.List.{List, [], _∷_, _++_}
 use Prim.Native.Nat.{ℕ, _+_, _-_, _≤_}
 use lib.Dec.{eqb}
 use lib.ListN.{length, drop}
-use Rattle.credentials.specs.Validity.{valid}
 use Rattle.credentials.specs.declared.Ids.{Ids}
 use Rattle.credentials.specs.declared.Sets.{Sets}
 use Rattle.credentials.specs.declared.Credentials.{Credentials}
@@ -16,8 +15,8 @@ use Rattle.line_reader.specs.declared.Place.{Place}
 use Rattle.line_reader.specs.Inside.{from, Values, linesAt, seen}
 use Rattle.line_reader.proofs.Answers.{fault-early, lines-read, lines-grouped, lines-within}
 use Rattle.line_reader.proofs.LineLaws.{position}
-use Rattle.sheet_reader.specs.declared.Front.the-variants.{Sheet, Invalid, Fault}
-use Rattle.sheet_reader.specs.Positions.{placedFront, frontOf}
+use Rattle.sheet_reader.specs.declared.Front.the-variants.{Fault}
+use Rattle.sheet_reader.specs.Positions.{judged, placedFront, frontOf}
 
 mapped-choice : {A B : Type 0} (f : A → B) (t : Bool) (line : ℕ) (v : A) (rest : List ℕ) → mapped f (cond t (faultAt line) (read v rest)) ≡ cond t (faultAt line) (read (f v) rest)
 mapped-choice f true line v rest = refl
@@ -102,14 +101,10 @@ module _ (text : List ℕ) (u g : Ids) (s : Sets) (securebits nnp : ℕ) (p q r 
   unfolding frontOf
   front-at-fault h = sym (ap (placedFront text) (front ∙ ap (λ (t : Bool). cond t (faultAt (end .lines)) (read held (drop (end .at) text))) h))
 
-  front-read : end .fault ≡ false → frontOf text ≡ cond (valid held) (Sheet held (end .at)) (Invalid held (end .at))
+  pub front-read : end .fault ≡ false → judged held (end .at) ≡ frontOf text
   unfolding frontOf
   front-read h =
+      sym (
       ap (placedFront text) (front ∙ ap (λ (t : Bool). cond t (faultAt (end .lines)) (read held (drop (end .at) text))) h)
-      ∙ ap (λ (n : ℕ). cond (valid held) (Sheet held n) (Invalid held n)) (position text (end .at) within)
-
-  pub front-valid : end .fault ≡ false → true ≡ valid held → Sheet held (end .at) ≡ frontOf text
-  front-valid h v = ap (λ (t : Bool). cond t (Sheet held (end .at)) (Invalid held (end .at))) v ∙ sym (front-read h)
-
-  pub front-invalid : end .fault ≡ false → false ≡ valid held → Invalid held (end .at) ≡ frontOf text
-  front-invalid h v = ap (λ (t : Bool). cond t (Sheet held (end .at)) (Invalid held (end .at))) v ∙ sym (front-read h)
+      ∙ ap (judged held) (position text (end .at) within)
+      )

@@ -15,7 +15,7 @@ use Rattle.format.proofs.Sheets.{front-written}
 use Rattle.line_reader.proofs.Answers.{rest-at, some-line}
 use Rattle.sheet_reader.specs.declared.Front.{Front}
 use Rattle.sheet_reader.specs.declared.Front.the-variants.{Sheet, Invalid, Fault}
-use Rattle.sheet_reader.specs.Positions.{placedFront, frontOf}
+use Rattle.sheet_reader.specs.Positions.{judged, placedFront, frontOf}
 
 -- lines are not empty, and so no sheet is
 lines-some : (k : Kind) (ks : List Kind) (v : ℕ) (vs : List ℕ) → 0 < length (linesText (k ∷ ks) (v ∷ vs))
@@ -55,12 +55,14 @@ module _ (text : List ℕ) where
   cased-fault false d n line h = let z : _≡_ {A = ℕ} 0 1 = cc in absurd (omega arith)
 
   told : (r : Read Credentials) (v : Bool) (c : Credentials) (past : ℕ) → readFront text ≡ r → placedFront text r ≡ fronted v c past → Told text c past v
+  unfolding judged
   told (read d rest) v c past e h =
       let t = cased (valid d) v d (length text - length rest) c past h in
       subst (λ (x : Credentials). Told text x past v) (t .1) (read-told d rest past v e (t .2) (t .0))
   told (faultAt line) v c past e h = cased-fault v c past line (sym h)
 
   fault-told : (r : Read Credentials) (line : ℕ) → placedFront text r ≡ Fault line → r ≡ faultAt line
+  unfolding judged
   fault-told (read d rest) line h = cased-fault (valid d) d (length text - length rest) line h
   fault-told (faultAt n) line h = let p : n ≡ line = cc in ap faultAt p
 

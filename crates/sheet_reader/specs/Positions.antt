@@ -10,9 +10,13 @@ use Rattle.format.specs.Sheet.{readFront}
 use Rattle.sheet_reader.specs.declared.Front.{Front}
 use Rattle.sheet_reader.specs.declared.Front.the-variants.{Sheet, Invalid, Fault}
 
--- what was read, with the position of the text after it: valid credentials, or others
+-- credentials and the position past them: valid ones, or others
+unfoldable pub judged : Credentials → ℕ → Front
+judged c past = cond (valid c) (Sheet c past) (Invalid c past)
+
+-- what was read, with the position of the text after it
 abbrev pub placedFront : List ℕ → Read Credentials → Front
-placedFront text (read c rest) = cond (valid c) (Sheet c (length text - length rest)) (Invalid c (length text - length rest))
+placedFront text (read c rest) = judged c (length text - length rest)
 placedFront text (faultAt line) = Fault line
 
 unfoldable pub frontOf : List ℕ → Front

@@ -6,7 +6,7 @@ ghost use mathlib.Core.Path.{_≡_};
 ghost use mathlib.Core.List.{[], _∷_};
 ghost use Rattle.format.specs.Sheet.{idKinds, setKinds, flagKinds, idValues, setValues, readSheet, sheetCode, sheetLine};
 ghost use Rattle.line_reader.specs.Inside.{linesAt};
-ghost use Rattle.sheet_reader.specs.Positions.{frontOf};
+ghost use Rattle.sheet_reader.specs.Positions.{frontOf, judged};
 use codes::DONE;
 use codes::INVALID_CREDENTIALS;
 use codes::MALFORMED;
@@ -150,10 +150,17 @@ pub fn read_front(text: &[u8]) -> Front
         securebits: flags.securebits,
         nnp: flags.nnp == 1,
     };
+    judged(read, end.at)
+}
+
+// Credentials that were read and the position past them, told apart by whether they are valid.
+fn judged(read: Credentials, past: usize) -> Front
+    ensures { λ r. ⌜ r ≡ judged read past ⌝ }
+{
     if is_valid(read) {
-        return Front::Sheet(read, end.at);
+        return Front::Sheet(read, past);
     }
-    Front::Invalid(read, end.at)
+    Front::Invalid(read, past)
 }
 
 // A text that is to be a sheet and nothing more.

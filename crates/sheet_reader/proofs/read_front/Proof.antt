@@ -1,7 +1,7 @@
 -- `sheet_reader::read_front` meets its contract. Assumes nothing.
-use mathlib.Core.Path.{sym, _∙_}
+use mathlib.Core.Path.{_∙_}
 use Rattle.format.specs.Sheet.{uidKinds, gidKinds}
-use Rattle.sheet_reader.proofs.Groups.{users-at-fault, groups-at-fault, sets-at-fault, front-at-fault, front-valid, front-invalid}
+use Rattle.sheet_reader.proofs.Groups.{users-at-fault, groups-at-fault, sets-at-fault, front-at-fault, front-read}
 use Rattle.sheet_reader.proofs.read_front.Statement.{statement}
 use Rattle.sheet_reader.proofs.read_front.Tie as tie
 
@@ -46,28 +46,19 @@ returns-4 c =
     front-at-fault _ _ _ _ _ _ _ _ _ _ (users .read-ids .ensures) (groups .read-ids2 .ensures) (sets .read-sets .ensures) (flags .read-flags .ensures)
     (c .if4 .taken)
 
-is-valid-requires : tie.Need-is-valid-requires
-is-valid-requires c κs = tt
+judged-requires : tie.Need-judged-requires
+judged-requires c κs = tt
 
 returns-5 : tie.Need-returns-5
 unfolding uidKinds gidKinds
 returns-5 c =
-    let flags = c .before .before .before .before .before .before .before .before in
+    let flags = c .before .before .before .before .before .before .before in
     let sets = flags .before .before .before in
     let groups = sets .before .before .before in
     let users = groups .before .before .before in
-    front-valid _ _ _ _ _ _ _ _ _ _ (users .read-ids .ensures) (groups .read-ids2 .ensures) (sets .read-sets .ensures) (flags .read-flags .ensures)
-    (c .before .before .before .before .before .before .if4 .left) (sym (c .if5 .taken) ∙ c .before .is-valid .ensures)
-
-returns-6 : tie.Need-returns-6
-unfolding uidKinds gidKinds
-returns-6 c =
-    let flags = c .before .before .before .before .before .before .before .before in
-    let sets = flags .before .before .before in
-    let groups = sets .before .before .before in
-    let users = groups .before .before .before in
-    front-invalid _ _ _ _ _ _ _ _ _ _ (users .read-ids .ensures) (groups .read-ids2 .ensures) (sets .read-sets .ensures) (flags .read-flags .ensures)
-    (c .before .before .before .before .before .before .if4 .left) (sym (c .if5 .left) ∙ c .before .is-valid .ensures)
+    c .judged .ensures
+    ∙ front-read _ _ _ _ _ _ _ _ _ _ (users .read-ids .ensures) (groups .read-ids2 .ensures) (sets .read-sets .ensures) (flags .read-flags .ensures)
+    (c .before .before .before .before .before .if4 .left)
 
 pub read-front-spec : {M : Type 1} → statement M
 read-front-spec =
@@ -81,6 +72,5 @@ read-front-spec =
     returns-3
     read-flags-requires
     returns-4
-    is-valid-requires
-    returns-5
-    returns-6)
+    judged-requires
+    returns-5)
