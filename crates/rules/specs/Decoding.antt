@@ -47,7 +47,7 @@ idOrNone id = leb id NO-ID
 unfoldable pub known : Bool → Call → Decoded
 known right call = cond right (Known call) Unknown
 
--- a number, the operands and the attribute's length as a call, or as none
+-- a number, the operands and the attribute's length as a call, or as none; in call 1 operand c is the file's group, which is in range as its owner is
 unfoldable pub decode : ℕ → ℕ → ℕ → ℕ → ℕ → Decoded
 decode number a b c size =
     cond (eqb number 1) (known (idInRange a && flagsInRange b && idInRange c) (Execve a b c))
