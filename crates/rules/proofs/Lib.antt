@@ -1,6 +1,6 @@
 pub mod Cases
 pub mod Conditions
-pub mod CallsOnIds
+pub mod Corresponding
 pub mod FilesystemId
 pub mod KeptIds
 pub mod KeptSets

@@ -1,5 +1,5 @@
 -- The ID calls on user IDs and on group IDs beside each other ("Group IDs on the sheet"): one statement, CallsOnIds, at the end. Proved in
--- proofs/CallsOnIds.antt. Assumes nothing.
+-- proofs/Corresponding.antt. Assumes nothing.
 use Prim.Native.Nat.{_-_, _≤_}
 use mathlib.Core.Path.{_≡_}
 use Rattle.capabilities.specs.Sets.{has}
