@@ -1,3 +1,4 @@
 pub mod LineLaws
 pub mod Pairs
 pub mod Answers
+pub mod Attributes

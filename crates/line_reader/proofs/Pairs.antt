@@ -8,54 +8,60 @@ use native.Mathlib.Numerals.{add-one}
 use lib.Dec.{ltb, eqb}
 use lib.ListN.{length, getD, set, take, drop, replicate, length-drop, drop-of-length-le, take-append-drop}
 use lib.Seq.{drop-cons, drop-drop, length-take-le}
-use Rattle.format.specs.Line.{read, fault, hexDigit, newline}
+use Rattle.format.specs.Line.{Read, read, fault, newline}
 use Rattle.format.specs.Step.{readPairs}
-use Rattle.format.proofs.Pairs.{newline-read}
+use Rattle.hex_tables.specs.Tables.{hexDigitBy, readPairsBy}
 use Rattle.line_reader.specs.declared.lines.Bytes.{Bytes}
-use Rattle.line_reader.specs.Inside.{placedBytes, noBytes, bytesAt}
-use Rattle.line_reader.specs.Inside.{startsWith}
+use Rattle.line_reader.specs.Inside.{startsWith, placedBytes, noBytes, bytesAt}
 use Rattle.line_reader.proofs.LineLaws.{position, key-there, key-missing, key-short}
 
 -- ---- one pair of digits
 
-no-digit-first : (n b : ℕ) (bs t : List ℕ) → eqb b newline ≡ false → ltb (hexDigit b) 16 ≡ false → readPairs (suc n) bs (b ∷ t) ≡ fault
-unfolding readPairs
-no-digit-first n b bs [] e g = rw e
-no-digit-first n b bs (c ∷ t) e g = rw (e, g)
+module _ (table : List ℕ) where
+  newline-read : (n : ℕ) (bs t : List ℕ) → readPairsBy table n bs (newline ∷ t) ≡ read bs t
+  unfolding readPairsBy readPairs
+  newline-read zero bs t = refl
+  newline-read (suc n) bs [] = refl
+  newline-read (suc n) bs (c ∷ t) = refl
 
-module _ (i : ℕ) (text : List ℕ) (h : i < length text) where
-  pub pairs-newline : (n : ℕ) (bs : List ℕ) → getD text i 0 ≡ newline → readPairs n bs (drop i text) ≡ read bs (drop (i + 1) text)
-  pairs-newline n bs e = rw (drop-cons text i 0 h, e, add-one i) (newline-read n bs (drop (suc i) text))
+  no-digit-first : (n b : ℕ) (bs t : List ℕ) → eqb b newline ≡ false → ltb (hexDigitBy table b) 16 ≡ false → readPairsBy table (suc n) bs (b ∷ t) ≡ fault
+  unfolding readPairsBy readPairs
+  no-digit-first n b bs [] e g = rw e
+  no-digit-first n b bs (c ∷ t) e g = rw (e, g)
 
-  -- there are as many bytes as there can be
-  pub pairs-full : (n : ℕ) (bs : List ℕ) → n ≡ 0 → eqb (getD text i 0) newline ≡ false → readPairs n bs (drop i text) ≡ fault
-  unfolding readPairs
-  pairs-full n bs e g = rw (e, drop-cons text i 0 h, g)
+  module _ (i : ℕ) (text : List ℕ) (h : i < length text) where
+    pub pairs-newline : (n : ℕ) (bs : List ℕ) → getD text i 0 ≡ newline → readPairsBy table n bs (drop i text) ≡ read bs (drop (i + 1) text)
+    pairs-newline n bs e = rw (drop-cons text i 0 h, e, add-one i) (newline-read n bs (drop (suc i) text))
 
-  pub pairs-no-digit : (n m : ℕ) (bs : List ℕ) → n ≡ m + 1 → eqb (getD text i 0) newline ≡ false → ltb (hexDigit (getD text i 0)) 16 ≡ false
-      → readPairs n bs (drop i text) ≡ fault
-  pairs-no-digit n m bs e g k = rw (e, add-one m, drop-cons text i 0 h) (no-digit-first m (getD text i 0) bs (drop (suc i) text) g k)
+    -- there are as many bytes as there can be
+    pub pairs-full : (n : ℕ) (bs : List ℕ) → n ≡ 0 → eqb (getD text i 0) newline ≡ false → readPairsBy table n bs (drop i text) ≡ fault
+    unfolding readPairsBy readPairs
+    pairs-full n bs e g = rw (e, drop-cons text i 0 h, g)
 
-  -- the text ends after one digit
-  pub pairs-one : (n m : ℕ) (bs : List ℕ) → n ≡ m + 1 → length text ≤ i + 1 → eqb (getD text i 0) newline ≡ false → readPairs n bs (drop i text) ≡ fault
-  unfolding readPairs
-  pairs-one n m bs e g k =
-      let p : drop (suc i) text ≡ [] = drop-of-length-le text {i = suc i} (omega (arith, g)) in
-      rw (e, add-one m, drop-cons text i 0 h, p, k)
+    pub pairs-no-digit : (n m : ℕ) (bs : List ℕ) → n ≡ m + 1 → eqb (getD text i 0) newline ≡ false → ltb (hexDigitBy table (getD text i 0)) 16 ≡ false
+        → readPairsBy table n bs (drop i text) ≡ fault
+    pairs-no-digit n m bs e g k = rw (e, add-one m, drop-cons text i 0 h) (no-digit-first m (getD text i 0) bs (drop (suc i) text) g k)
 
-  pub pairs-two : (n m j : ℕ) (bs : List ℕ) → n ≡ m + 1 → j ≡ i + 1 → j < length text → eqb (getD text i 0) newline ≡ false
-      → readPairs n bs (drop i text)
-      ≡ cond (ltb (hexDigit (getD text i 0)) 16 && ltb (hexDigit (getD text j 0)) 16)
-      (readPairs m (bs ++ ((hexDigit (getD text i 0) * 16 + hexDigit (getD text j 0)) ∷ [])) (drop (j + 1) text)) fault
-  unfolding readPairs
-  pairs-two n m j bs e f g k =
-      let q : suc i < length text = omega (arith, f, g) in
-      rw (e, add-one m, f, add-one i, drop-cons text i 0 h, drop-cons text (suc i) 0 q, add-one (suc i), k)
+    -- the text ends after one digit
+    pub pairs-one : (n m : ℕ) (bs : List ℕ) → n ≡ m + 1 → length text ≤ i + 1 → eqb (getD text i 0) newline ≡ false → readPairsBy table n bs (drop i text) ≡ fault
+    unfolding readPairsBy readPairs
+    pairs-one n m bs e g k =
+        let p : drop (suc i) text ≡ [] = drop-of-length-le text {i = suc i} (omega (arith, g)) in
+        rw (e, add-one m, drop-cons text i 0 h, p, k)
 
-pub pairs-end : (i : ℕ) (text : List ℕ) → length text ≤ i → (n : ℕ) (bs : List ℕ) → readPairs n bs (drop i text) ≡ fault
-unfolding readPairs
-pairs-end i text h zero bs = rw (drop-of-length-le text h)
-pairs-end i text h (suc n) bs = rw (drop-of-length-le text h)
+    pub pairs-two : (n m j : ℕ) (bs : List ℕ) → n ≡ m + 1 → j ≡ i + 1 → j < length text → eqb (getD text i 0) newline ≡ false
+        → readPairsBy table n bs (drop i text)
+        ≡ cond (ltb (hexDigitBy table (getD text i 0)) 16 && ltb (hexDigitBy table (getD text j 0)) 16)
+        (readPairsBy table m (bs ++ ((hexDigitBy table (getD text i 0) * 16 + hexDigitBy table (getD text j 0)) ∷ [])) (drop (j + 1) text)) fault
+    unfolding readPairsBy readPairs
+    pairs-two n m j bs e f g k =
+        let q : suc i < length text = omega (arith, f, g) in
+        rw (e, add-one m, f, add-one i, drop-cons text i 0 h, drop-cons text (suc i) 0 q, add-one (suc i), k)
+
+  pub pairs-end : (i : ℕ) (text : List ℕ) → length text ≤ i → (n : ℕ) (bs : List ℕ) → readPairsBy table n bs (drop i text) ≡ fault
+  unfolding readPairsBy readPairs
+  pairs-end i text h zero bs = rw (drop-of-length-le text h)
+  pairs-end i text h (suc n) bs = rw (drop-of-length-le text h)
 
 -- ---- the array of bytes
 
@@ -81,22 +87,24 @@ attribute-found text bytes n i h g e z =
 
 -- ---- the line
 
-no-pairs : (u : List ℕ) → length u < 1 → readPairs 24 [] u ≡ fault
-unfolding readPairs
-no-pairs [] h = refl
-no-pairs (b ∷ u) h = absurd (omega arith)
+no-pairs : (table u : List ℕ) → length u < 1 → readPairsBy table 24 [] u ≡ fault
+unfolding readPairsBy
+no-pairs table [] h = refl
+no-pairs table (b ∷ u) h = absurd (omega arith)
 
-module _ (key text : List ℕ) (at : ℕ) where
+module _ (table key text : List ℕ) (at : ℕ) where
+  abbrev pairs : List ℕ → Read (List ℕ)
+  pairs t = readPairsBy table 24 [] t
+
   -- too short for the key
-  pub attribute-short : length text < at + length key → bytesAt key text at ≡ noBytes
+  pub attribute-short : length text < at + length key → bytesAt key pairs text at ≡ noBytes
   unfolding bytesAt
-  attribute-short h = rw (key-short 1 key (readPairs 24 []) (drop at text) no-pairs (omega (arith, length-drop at text)))
+  attribute-short h = rw (key-short 1 key pairs (drop at text) (no-pairs table) (omega (arith, length-drop at text)))
 
-  pub attribute-missing : startsWith key (drop at text) ≡ false → bytesAt key text at ≡ noBytes
+  pub attribute-missing : startsWith key (drop at text) ≡ false → bytesAt key pairs text at ≡ noBytes
   unfolding bytesAt
-  attribute-missing h = rw (key-missing key (readPairs 24 []) (drop at text) h)
+  attribute-missing h = rw (key-missing key pairs (drop at text) h)
 
-  pub attribute-there : startsWith key (drop at text) ≡ true → bytesAt key text at ≡ placedBytes text (readPairs 24 [] (drop (at + length key) text))
+  pub attribute-there : startsWith key (drop at text) ≡ true → bytesAt key pairs text at ≡ placedBytes text (pairs (drop (at + length key) text))
   unfolding bytesAt
-  attribute-there h =
-      ap (placedBytes text) (key-there key (readPairs 24 []) (drop at text) h ∙ ap (readPairs 24 []) (drop-drop (length key) at text))
+  attribute-there h = ap (placedBytes text) (key-there key pairs (drop at text) h ∙ ap pairs (drop-drop (length key) at text))

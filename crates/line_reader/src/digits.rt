@@ -1,36 +1,20 @@
-// One digit, read by tests.
+// One digit: a hex digit by a table, a decimal one by tests.
 ghost use mathlib.Core.Path.{_≡_};
-ghost use Rattle.format.specs.Line.{hexDigit, decimalDigit};
+ghost use Rattle.format.specs.Line.{decimalDigit};
+ghost use Rattle.hex_tables.specs.Tables.{hexDigitBy};
+use codes::wide;
 
-// The bytes of `0` and `a`, and the first ones past `9` and `f`.
+// The byte of `0`, and the first one past `9`.
 const ZERO: u8 = 48;
 
 const PAST_NINE: u8 = 58;
 
-const LETTER_A: u8 = 97;
-
-const PAST_F: u8 = 103;
-
-// What a letter's byte has more than its number.
-const LETTERS: u8 = 87;
-
-// The number of b as a lower-case hex digit, or 16 where it is none.
-pub(crate) fn hex_digit(b: u8) -> u64
-    ensures { λ r. ⌜ r ≡ hexDigit b ⌝ }
+// What b is as a hex digit by the table: above 15 it is none.
+pub(crate) fn hex_digit(table: &[u8; 256], b: u8) -> u64
+    ensures { λ r. ⌜ r ≡ hexDigitBy (now (table .entry)) b ⌝ }
 {
-    if b < ZERO {
-        return 16;
-    }
-    if b < PAST_NINE {
-        return (b - ZERO) as u64;
-    }
-    if b < LETTER_A {
-        return 16;
-    }
-    if b < PAST_F {
-        return (b - LETTERS) as u64;
-    }
-    16
+    let i = b as usize;
+    wide(table[i])
 }
 
 // The number of b as a decimal digit, or 10 where it is none.

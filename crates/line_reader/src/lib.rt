@@ -1,8 +1,9 @@
 // Readers of a `key=value` line at a place of a text, one to a form of value.
 //
 // A place tells how far the text is read, and whether there was a fault; so lines are read one after the other, each at the place that the last one
-// gave, and the fault's line is known at the end. A key is handed in with its `=`. The format itself is defined in the crate `format`. Every function is
-// proved, for every argument: no public one has a `requires`. The crate assumes nothing.
+// gave, and the fault's line is known at the end. A key is handed in with its `=`, and what reads hex is lent a table of digits, whichever: with that of
+// `hex_tables` the text is read as the crate `format` defines it. Every function is proved, for every argument: no public one has a `requires`. The crate
+// assumes nothing.
 mod digits;
 mod lines;
 mod places;

@@ -3,8 +3,8 @@ ghost use mathlib.Core.Path.{_≡_};
 ghost use Prim.Native.Nat.{_+_, _-_, _≤_, _<_};
 ghost use mathlib.Core.List.{[]};
 ghost use lib.ListN.{length, drop};
-ghost use Rattle.format.specs.Line.{decimal, hex, readDigits};
-ghost use Rattle.format.specs.Step.{readPairs};
+ghost use Rattle.format.specs.Line.{readDecimal, readDigits};
+ghost use Rattle.hex_tables.specs.Tables.{readHexBy, readPairsBy};
 ghost use Rattle.line_reader.specs.Inside.{startsWith, hexOf, lineAt, placed, bytesAt, placedBytes, noBytes};
 use crate::MOST_ATTRIBUTE;
 use crate::NEWLINE;
@@ -48,15 +48,15 @@ fn starts_with(text: &[u8], at: usize, key: &[u8]) -> bool
     true
 }
 
-// The number that the n hex digits of text at the position at make.
-fn hex_at(text: &[u8], at: usize, n: usize) -> Digits
+// The number that the n hex digits of text at the position at make by the table.
+fn hex_at(text: &[u8], at: usize, n: usize, table: &[u8; 256]) -> Digits
     requires { ⌜ (n ≤ 16) × (at + n ≤ length (now text)) ⌝ }
-    ensures { λ r. ⌜ r ≡ hexOf n 0 (drop at (now (text .entry))) ⌝ }
+    ensures { λ r. ⌜ r ≡ hexOf (now (table .entry)) n 0 (drop at (now (text .entry))) ⌝ }
 {
     let mut v: u64 = 0;
     let mut k: usize = 0;
     while k < n {
-        let d = hex_digit(text[at + k]);
+        let d = hex_digit(table, text[at + k]);
         if 16 <= d {
             return Digits::No;
         }
@@ -66,10 +66,10 @@ fn hex_at(text: &[u8], at: usize, n: usize) -> Digits
     Digits::Make(v)
 }
 
-// The line of key and n hex digits at the position at of text.
-pub(crate) fn hex_line(text: &[u8], at: usize, key: &[u8], n: usize) -> Line
+// The line of key and n hex digits by the table at the position at of text.
+pub(crate) fn hex_line(text: &[u8], at: usize, key: &[u8], n: usize, table: &[u8; 256]) -> Line
     requires { ⌜ n ≤ 16 ⌝ }
-    ensures { λ r. ⌜ r ≡ lineAt (now (key .entry)) (hex n) (now (text .entry)) at ⌝ }
+    ensures { λ r. ⌜ r ≡ lineAt (now (key .entry)) (readHexBy (now (table .entry)) n 0) (now (text .entry)) at ⌝ }
 {
     let size = key.len() + n + 1;
     let len = text.len();
@@ -82,7 +82,7 @@ pub(crate) fn hex_line(text: &[u8], at: usize, key: &[u8], n: usize) -> Line
     if starts_with(text, at, key) {
         let p = at + key.len();
         let q = p + n;
-        let Digits::Make(v) = hex_at(text, p, n) else {
+        let Digits::Make(v) = hex_at(text, p, n, table) else {
             return Line::Fault;
         };
         if text[q] == NEWLINE {
@@ -123,7 +123,7 @@ fn digits_at(text: &[u8], at: usize, largest: u32, first: u64) -> Line
 
 // The line of key and a decimal number up to largest at the position at of text.
 pub(crate) fn decimal_line(text: &[u8], at: usize, key: &[u8], largest: u32) -> Line
-    ensures { λ r. ⌜ r ≡ lineAt (now (key .entry)) (decimal largest) (now (text .entry)) at ⌝ }
+    ensures { λ r. ⌜ r ≡ lineAt (now (key .entry)) (readDecimal largest) (now (text .entry)) at ⌝ }
 {
     let size = key.len() + 1;
     let len = text.len();
@@ -159,9 +159,9 @@ fn no_bytes() -> Bytes
     }
 }
 
-// The bytes of two hex digits each from the position start on, and the newline.
-fn pairs_at(text: &[u8], start: usize) -> Bytes
-    ensures { λ r. ⌜ r ≡ placedBytes (now (text .entry)) (readPairs 24 [] (drop start (now (text .entry)))) ⌝ }
+// The bytes of two hex digits each, by the table, from the position start on, and the newline.
+fn pairs_at(text: &[u8], start: usize, table: &[u8; 256]) -> Bytes
+    ensures { λ r. ⌜ r ≡ placedBytes (now (text .entry)) (readPairsBy (now (table .entry)) 24 [] (drop start (now (text .entry)))) ⌝ }
 {
     let mut bytes = [0u8; 24];
     let mut i = start;
@@ -179,7 +179,7 @@ fn pairs_at(text: &[u8], start: usize) -> Bytes
         if n == MOST_ATTRIBUTE {
             return no_bytes();
         }
-        let high = hex_digit(b);
+        let high = hex_digit(table, b);
         if 16 <= high {
             return no_bytes();
         }
@@ -187,7 +187,7 @@ fn pairs_at(text: &[u8], start: usize) -> Bytes
         if text.len() <= j {
             return no_bytes();
         }
-        let low = hex_digit(text[j]);
+        let low = hex_digit(table, text[j]);
         if 16 <= low {
             return no_bytes();
         }
@@ -198,9 +198,9 @@ fn pairs_at(text: &[u8], start: usize) -> Bytes
     no_bytes()
 }
 
-// The line of key and up to 24 bytes, two hex digits each, at the position at of text.
-pub(crate) fn bytes_line(text: &[u8], at: usize, key: &[u8]) -> Bytes
-    ensures { λ r. ⌜ r ≡ bytesAt (now (key .entry)) (now (text .entry)) at ⌝ }
+// The line of key and up to 24 bytes, two hex digits each by the table, at the position at of text.
+pub(crate) fn bytes_line(text: &[u8], at: usize, key: &[u8], table: &[u8; 256]) -> Bytes
+    ensures { λ r. ⌜ r ≡ bytesAt (now (key .entry)) (readPairsBy (now (table .entry)) 24 []) (now (text .entry)) at ⌝ }
 {
     let size = key.len();
     let len = text.len();
@@ -211,7 +211,7 @@ pub(crate) fn bytes_line(text: &[u8], at: usize, key: &[u8]) -> Bytes
         return no_bytes();
     }
     if starts_with(text, at, key) {
-        return pairs_at(text, at + size);
+        return pairs_at(text, at + size, table);
     }
     no_bytes()
 }

@@ -1,7 +1,7 @@
 // The line at a place: its value and the place past it. After a fault nothing is read.
 ghost use mathlib.Core.Path.{_≡_};
 ghost use Rattle.format.specs.Line.{decimal, hex};
-ghost use Rattle.line_reader.specs.Positions.{numberAt, attributeAt, noAttribute, atFault, pastLine};
+ghost use Rattle.line_reader.specs.Positions.{numberAt, numberBy, attributeBy, noAttribute, atFault, pastLine};
 ghost use Rattle.line_reader.specs.Inside.{onward};
 use crate::Attribute;
 use crate::Number;
@@ -11,24 +11,24 @@ use crate::lines::bytes_line;
 use crate::lines::decimal_line;
 use crate::lines::hex_line;
 
-// The line of key and 16 hex digits at a place of text.
-pub fn read_hex16(text: &[u8], place: Place, key: &[u8]) -> Number
-    ensures { λ r. ⌜ r ≡ numberAt (now (key .entry)) (hex 16) (now (text .entry)) place ⌝ }
+// The line of key and 16 hex digits by the table at a place of text.
+pub fn read_hex16(text: &[u8], place: Place, key: &[u8], table: &[u8; 256]) -> Number
+    ensures { λ r. ⌜ r ≡ numberBy (now (table .entry)) (now (key .entry)) (hex 16) (now (text .entry)) place ⌝ }
 {
     if place.fault {
         return Number { value: 0, place };
     }
-    onward(place, hex_line(text, place.at, key, 16))
+    onward(place, hex_line(text, place.at, key, 16, table))
 }
 
-// The line of key and 2 hex digits at a place of text.
-pub fn read_hex2(text: &[u8], place: Place, key: &[u8]) -> Number
-    ensures { λ r. ⌜ r ≡ numberAt (now (key .entry)) (hex 2) (now (text .entry)) place ⌝ }
+// The line of key and 2 hex digits by the table at a place of text.
+pub fn read_hex2(text: &[u8], place: Place, key: &[u8], table: &[u8; 256]) -> Number
+    ensures { λ r. ⌜ r ≡ numberBy (now (table .entry)) (now (key .entry)) (hex 2) (now (text .entry)) place ⌝ }
 {
     if place.fault {
         return Number { value: 0, place };
     }
-    onward(place, hex_line(text, place.at, key, 2))
+    onward(place, hex_line(text, place.at, key, 2, table))
 }
 
 // The line of key and a decimal number up to largest at a place of text.
@@ -41,14 +41,14 @@ pub fn read_decimal(text: &[u8], place: Place, key: &[u8], largest: u32) -> Numb
     onward(place, decimal_line(text, place.at, key, largest))
 }
 
-// The line of key and up to 24 bytes, two hex digits each, at a place of text.
-pub fn read_attribute(text: &[u8], place: Place, key: &[u8]) -> Attribute
-    ensures { λ r. ⌜ r ≡ attributeAt (now (key .entry)) (now (text .entry)) place ⌝ }
+// The line of key and up to 24 bytes, two hex digits each by the table, at a place of text.
+pub fn read_attribute(text: &[u8], place: Place, key: &[u8], table: &[u8; 256]) -> Attribute
+    ensures { λ r. ⌜ r ≡ attributeBy (now (table .entry)) (now (key .entry)) (now (text .entry)) place ⌝ }
 {
     if place.fault {
         return no_attribute(place);
     }
-    let read = bytes_line(text, place.at, key);
+    let read = bytes_line(text, place.at, key, table);
     if read.found {
         let bytes = read.bytes;
         return Attribute {

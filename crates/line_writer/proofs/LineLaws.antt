@@ -8,9 +8,11 @@ use native.Mathlib.Omega.{arith}
 use borrow.Author.Tests.{le-leb, lt-leb}
 use lib.ListN.{length, getD, set, drop, length-append, drop-of-length-le}
 use lib.Seq.{sets, set-comm, drop-cons, length-sets}
-use Rattle.format.specs.Line.{bytes, Kind, digit, hexText, decimalText, keyedText, lineText, linesText}
+use Rattle.format.specs.Line.{bytes, Kind, digit, decimalText, keyedText}
 use Rattle.format.proofs.Decimals.{decimal-one, decimal-more}
-use Rattle.format.proofs.Lengths.{length-hex, length-more, at-most, length-keyed}
+use Rattle.format.proofs.Lengths.{length-more, at-most, length-keyed}
+use Rattle.hex_tables.specs.Tables.{digitBy, hexTextBy, lineTextBy, linesTextBy}
+use Rattle.hex_tables.proofs.Lengths.{length-hex-by}
 use Rattle.line_writer.specs.Positions.{written, writtenTo}
 use Rattle.line_writer.specs.Inside.{linesPut}
 
@@ -36,14 +38,16 @@ put-no-byte src l k i h = rw (drop-of-length-le src h)
 
 -- ---- hex digits
 
-pub put-hex-digit : (n m v : ℕ) (l : List ℕ) (i : ℕ) → n ≡ m + 1
-    → sets l i (hexText n v) ≡ sets (set l (i + m) (digit (v % 16))) i (hexText m (v / 16))
-unfolding hexText
-put-hex-digit n m v l i h = rw (h, add-one m) (sets-last (hexText m (v / 16)) (digit (v % 16)) l i ∙ rw (length-hex m (v / 16)))
+module _ (table : List ℕ) where
+  pub put-hex-digit : (n m v : ℕ) (l : List ℕ) (i : ℕ) → n ≡ m + 1
+      → sets l i (hexTextBy table n v) ≡ sets (set l (i + m) (digitBy table (v % 16))) i (hexTextBy table m (v / 16))
+  unfolding hexTextBy
+  put-hex-digit n m v l i h =
+      rw (h, add-one m) (sets-last (hexTextBy table m (v / 16)) (digitBy table (v % 16)) l i ∙ rw (length-hex-by table m (v / 16)))
 
-pub put-no-hex : (m v : ℕ) (l : List ℕ) (i : ℕ) → m ≡ 0 → sets l i (hexText m v) ≡ l
-unfolding hexText
-put-no-hex m v l i h = rw h
+  pub put-no-hex : (m v : ℕ) (l : List ℕ) (i : ℕ) → m ≡ 0 → sets l i (hexTextBy table m v) ≡ l
+  unfolding hexTextBy
+  put-no-hex m v l i h = rw h
 
 -- ---- decimal digits
 
@@ -95,29 +99,30 @@ module _ (t old : List ℕ) (at : ℕ) where
   unfolding written writtenTo
   text-put h = let e = le-leb (at + length t) (length old) h in (rw e, rw e)
 
--- lines that fit are the text of all of them
-pub lines-put : (ks : List Kind) (vs old : List ℕ) (at : ℕ) → at + length (linesText ks vs) ≤ length old
-    → linesPut ks vs old at ≡ record { buffer = sets old at (linesText ks vs); at = at + length (linesText ks vs) }
-unfolding linesPut linesText
-lines-put [] vs old at h = ap (λ (n : ℕ). record { buffer = old; at = n }) (sym (add-zero at))
-lines-put (k ∷ ks) [] old at h = ap (λ (n : ℕ). record { buffer = old; at = n }) (sym (add-zero at))
-lines-put (k ∷ ks) (v ∷ vs) old at h =
-    let t = lineText k v in
-    let u = linesText ks vs in
-    let n : length (t ++ u) ≡ length t + length u = length-append t u in
-    let one = text-put t old at (omega (arith, h, n)) in
-    let rest = lines-put ks vs (sets old at t) (at + length t) (omega (arith, h, n, length-sets old at t)) in
-    ap (λ (b : List ℕ). linesPut ks vs b (writtenTo old at t)) (one .1)
-    ∙ ap (linesPut ks vs (sets old at t)) (one .0)
-    ∙ rest
-    ∙ ap (λ (b : List ℕ). record { buffer = b; at = at + length t + length u }) (sym (sets-append t u old at))
-    ∙ ap (λ (m : ℕ). record { buffer = sets old at (t ++ u); at = m }) (add-assoc at (length t) (length u) ∙ ap (λ (m : ℕ). at + m) (sym n))
+module _ (table : List ℕ) where
+  -- lines that fit are the text of all of them
+  pub lines-put : (ks : List Kind) (vs old : List ℕ) (at : ℕ) → at + length (linesTextBy table ks vs) ≤ length old
+      → linesPut table ks vs old at ≡ record { buffer = sets old at (linesTextBy table ks vs); at = at + length (linesTextBy table ks vs) }
+  unfolding linesPut linesTextBy
+  lines-put [] vs old at h = ap (λ (n : ℕ). record { buffer = old; at = n }) (sym (add-zero at))
+  lines-put (k ∷ ks) [] old at h = ap (λ (n : ℕ). record { buffer = old; at = n }) (sym (add-zero at))
+  lines-put (k ∷ ks) (v ∷ vs) old at h =
+      let t = lineTextBy table k v in
+      let u = linesTextBy table ks vs in
+      let n : length (t ++ u) ≡ length t + length u = length-append t u in
+      let one = text-put t old at (omega (arith, h, n)) in
+      let rest = lines-put ks vs (sets old at t) (at + length t) (omega (arith, h, n, length-sets old at t)) in
+      ap (λ (b : List ℕ). linesPut table ks vs b (writtenTo old at t)) (one .1)
+      ∙ ap (linesPut table ks vs (sets old at t)) (one .0)
+      ∙ rest
+      ∙ ap (λ (b : List ℕ). record { buffer = b; at = at + length t + length u }) (sym (sets-append t u old at))
+      ∙ ap (λ (m : ℕ). record { buffer = sets old at (t ++ u); at = m }) (add-assoc at (length t) (length u) ∙ ap (λ (m : ℕ). at + m) (sym n))
 
--- lines of two groups
-pub lines-grouped : (ks ls : List Kind) (vs ws old : List ℕ) (at : ℕ) → length ks ≡ length vs
-    → linesPut (ks ++ ls) (vs ++ ws) old at ≡ linesPut ls ws (linesPut ks vs old at .buffer) (linesPut ks vs old at .at)
-unfolding linesPut
-lines-grouped [] ls [] ws old at e = refl
-lines-grouped [] ls (v ∷ vs) ws old at e = absurd (omega (arith, e))
-lines-grouped (k ∷ ks) ls [] ws old at e = absurd (omega (arith, e))
-lines-grouped (k ∷ ks) ls (v ∷ vs) ws old at e = lines-grouped ks ls vs ws (written old at (lineText k v)) (writtenTo old at (lineText k v)) (omega (arith, e))
+  -- lines of two groups
+  pub lines-grouped : (ks ls : List Kind) (vs ws old : List ℕ) (at : ℕ) → length ks ≡ length vs
+      → linesPut table (ks ++ ls) (vs ++ ws) old at ≡ linesPut table ls ws (linesPut table ks vs old at .buffer) (linesPut table ks vs old at .at)
+  unfolding linesPut
+  lines-grouped [] ls [] ws old at e = refl
+  lines-grouped [] ls (v ∷ vs) ws old at e = absurd (omega (arith, e))
+  lines-grouped (k ∷ ks) ls [] ws old at e = absurd (omega (arith, e))
+  lines-grouped (k ∷ ks) ls (v ∷ vs) ws old at e = lines-grouped ks ls vs ws (written old at (lineTextBy table k v)) (writtenTo old at (lineTextBy table k v)) (omega (arith, e))

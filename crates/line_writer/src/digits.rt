@@ -1,20 +1,25 @@
-// One digit, written by a test.
+// One digit: a hex digit by a table, a decimal one by its number.
 ghost use mathlib.Core.Path.{_≡_};
 ghost use Prim.Native.Nat.{_<_};
 ghost use Rattle.format.specs.Line.{digit};
+ghost use Rattle.hex_tables.specs.Tables.{digitBy};
 
-// What a decimal digit's byte and a letter's have more than their number.
+// What a decimal digit's byte has more than its number.
 const ZERO: u64 = 48;
 
-const LETTERS: u64 = 87;
-
-// The digit of d.
-pub(crate) fn digit_of(d: u64) -> u8
+// The hex digit of d by the table.
+pub(crate) fn hex_digit(table: &[u8; 16], d: u64) -> u8
     requires { ⌜ d < 16 ⌝ }
+    ensures { λ r. ⌜ r ≡ digitBy (now (table .entry)) d ⌝ }
+{
+    let i = d as usize;
+    table[i]
+}
+
+// The decimal digit of d.
+pub(crate) fn decimal_digit(d: u64) -> u8
+    requires { ⌜ d < 10 ⌝ }
     ensures { λ r. ⌜ r ≡ digit d ⌝ }
 {
-    if d < 10 {
-        return (ZERO + d) as u8;
-    }
-    (LETTERS + d) as u8
+    (ZERO + d) as u8
 }

@@ -1,7 +1,8 @@
 // Writers of a `key=value` line at a position of a buffer, one to a form of value.
 //
-// A key is handed in with its `=`. A line that does not fit is not written at all. The format itself is defined in the crate `format`. Every
-// function is proved, for every argument: no public one has a `requires`. The crate assumes nothing.
+// A key is handed in with its `=`, and what writes hex is lent a table of digits, whichever: with that of `hex_tables` a line is written as the crate
+// `format` defines it. A line that does not fit is not written at all. Every function is proved, for every argument: no public one has a `requires`. The
+// crate assumes nothing.
 mod digits;
 mod lines;
 

@@ -3,10 +3,12 @@ ghost use mathlib.Core.Path.{_≡_};
 ghost use Prim.Native.Nat.{_+_, _≤_};
 ghost use lib.ListN.{length};
 ghost use lib.Seq.{sets};
-ghost use Rattle.format.specs.Line.{hexText, decimalText, keyedText};
+ghost use Rattle.format.specs.Line.{decimalText, keyedText};
+ghost use Rattle.hex_tables.specs.Tables.{hexTextBy};
 ghost use Rattle.line_writer.specs.Positions.{writtenTo, written};
 use crate::NEWLINE;
-use crate::digits::digit_of;
+use crate::digits::decimal_digit;
+use crate::digits::hex_digit;
 
 // The bytes of src into buf at the position at.
 fn put_bytes(buf: &mut [u8], at: usize, src: &[u8]) -> usize
@@ -22,16 +24,16 @@ fn put_bytes(buf: &mut [u8], at: usize, src: &[u8]) -> usize
     at + n
 }
 
-// The last n hex digits of v into buf at the position at.
-fn put_hex(buf: &mut [u8], at: usize, n: usize, v: u64) -> usize
+// The last n hex digits of v, by the table, into buf at the position at.
+fn put_hex(buf: &mut [u8], at: usize, n: usize, v: u64, table: &[u8; 16]) -> usize
     requires { ⌜ at + n ≤ length (now buf) ⌝ }
-    ensures { λ r. ⌜ (r ≡ at + n) × (now (buf .exit) ≡ sets (now (buf .entry)) at (hexText n v)) ⌝ }
+    ensures { λ r. ⌜ (r ≡ at + n) × (now (buf .exit) ≡ sets (now (buf .entry)) at (hexTextBy (now (table .entry)) n v)) ⌝ }
 {
     let mut m = n;
     let mut w = v;
     while 0 < m {
         m -= 1;
-        buf[at + m] = digit_of(w % 16);
+        buf[at + m] = hex_digit(table, w % 16);
         w = w / 16;
     }
     at + n
@@ -59,16 +61,16 @@ fn put_decimal(buf: &mut [u8], at: usize, n: usize, v: u64) -> usize
     let mut w = v;
     while 10 <= w {
         m -= 1;
-        buf[at + m] = digit_of(w % 10);
+        buf[at + m] = decimal_digit(w % 10);
         w = w / 10;
     }
-    buf[at] = digit_of(w);
+    buf[at] = decimal_digit(w);
     at + n
 }
 
-// The line of key and the last n hex digits of v into buf at the position at: the position past it, or at where it does not fit.
-pub fn write_hex(buf: &mut [u8], at: usize, key: &[u8], n: u8, v: u64) -> usize
-    ensures { λ r. ⌜ (r ≡ writtenTo (now (buf .entry)) at (keyedText (now (key .entry)) (hexText n v))) × (now (buf .exit) ≡ written (now (buf .entry)) at (keyedText (now (key .entry)) (hexText n v))) ⌝ }
+// The line of key and the last n hex digits of v, by the table, into buf at the position at: the position past it, or at where it does not fit.
+pub fn write_hex(buf: &mut [u8], at: usize, key: &[u8], n: u8, v: u64, table: &[u8; 16]) -> usize
+    ensures { λ r. ⌜ (r ≡ writtenTo (now (buf .entry)) at (keyedText (now (key .entry)) (hexTextBy (now (table .entry)) n v))) × (now (buf .exit) ≡ written (now (buf .entry)) at (keyedText (now (key .entry)) (hexTextBy (now (table .entry)) n v))) ⌝ }
 {
     let digits = n as usize;
     let size = key.len() + digits + 1;
@@ -80,7 +82,7 @@ pub fn write_hex(buf: &mut [u8], at: usize, key: &[u8], n: u8, v: u64) -> usize
         return at;
     }
     let p = put_bytes(buf, at, key);
-    let q = put_hex(buf, p, digits, v);
+    let q = put_hex(buf, p, digits, v, table);
     buf[q] = NEWLINE;
     q + 1
 }

@@ -19,10 +19,14 @@ use Rattle.format.specs.Report.{resultKinds, resultText, resultsText, reportTex
 use Rattle.format.specs.declared.Outcome.{Outcome}
 use Rattle.format.proofs.Lengths.{length-result-lines}
 use Rattle.format.proofs.Reading.{mapped-told, mapped-fault}
+use Rattle.hex_tables.specs.Tables.{writingTable}
+use Rattle.hex_tables.proofs.Format.{by-the-tables}
 use Rattle.line_writer.specs.Positions.{written}
-use Rattle.sheet_writer.specs.Positions.{bufferAt}
+use Rattle.line_writer.specs.Inside.{linesPut}
+use Rattle.line_writer.proofs.LineLaws.{sets-append, lines-put}
+use Rattle.sheet_writer.specs.Positions.{bufferAt, bufferBy}
+use Rattle.sheet_writer.proofs.Answers.{buffer-by-the-table}
 use Rattle.rules.proofs.Demand3.{demand-3}
-use Rattle.line_writer.proofs.LineLaws.{sets-append}
 use Rattle.plan.specs.Inside.{Ran, codesOf, valuesOf, ranOf, ranSteps, answersText}
 
 -- ---- the results' lines
@@ -56,6 +60,15 @@ module _ (codes values : List ℕ) (n : ℕ) (p : n ≤ length codes) (q : n ≤
   put-lines old buf at past j h e f =
       rw (lines-step j h, e, f) (sets-append (linesText resultKinds (getD codes j 0 ∷ getD values j 0 ∷ [])) (linesFrom (j + 1)) old at)
 
+-- by the table for writing, the lines of a result that fit are the format's
+pub result-put : (table vs old : List ℕ) (at : ℕ) → table ≡ writingTable → at + length (linesText resultKinds vs) ≤ length old
+    → linesPut table resultKinds vs old at ≡ record { buffer = sets old at (linesText resultKinds vs); at = at + length (linesText resultKinds vs) }
+result-put table vs old at e h =
+    let text = by-the-tables .lines-written resultKinds vs in
+    ap (λ (t : List ℕ). linesPut t resultKinds vs old at) e
+    ∙ lines-put writingTable resultKinds vs old at (rw text h)
+    ∙ ap (λ (t : List ℕ). record { buffer = sets old at t; at = at + length t }) text
+
 -- ---- the report
 
 results-text : (rs : List Result) → resultsText rs ≡ answersText (codesOf rs) (valuesOf rs)
@@ -84,9 +97,10 @@ module _ (a s old : List ℕ) where
   report-no-room h = rw (lt-leb (length (a ++ s)) (length old) (omega (arith, length-append a s))) (refl, refl)
 
 -- the sheet of valid credentials is written
-pub sheet-put : (c : Credentials) (at : ℕ) (old : List ℕ) → valid c ≡ true → bufferAt c at old ≡ written old at (sheetText c)
+pub sheet-put : (table : List ℕ) (c : Credentials) (at : ℕ) (old : List ℕ) → table ≡ writingTable → valid c ≡ true
+    → bufferBy table c at old ≡ written old at (sheetText c)
 unfolding bufferAt
-sheet-put c at old v = rw v
+sheet-put table c at old e v = buffer-by-the-table table c at old e ∙ rw v
 
 -- ---- the plan
 

@@ -15,9 +15,11 @@ use Rattle.format.specs.Plan.{readSteps}
 use Rattle.format.proofs.Reading.{mapped-told, mapped-fault}
 use Rattle.line_reader.specs.declared.Place.{Place}
 use Rattle.line_reader.specs.declared.Attribute.{Attribute}
-use Rattle.line_reader.specs.Positions.{attributeAt}
-use Rattle.line_reader.specs.Inside.{from, Values, linesAt, seen}
-use Rattle.line_reader.proofs.Answers.{lines-read, lines-most, lines-counted, attribute-read, attribute-missed, attribute-skipped}
+use Rattle.hex_tables.specs.Tables.{readingTable, readValueBy}
+use Rattle.line_reader.specs.Positions.{from, Values, linesBy, attributeBy}
+use Rattle.line_reader.specs.Inside.{seen}
+use Rattle.line_reader.proofs.Answers.{lines-read, lines-most, lines-counted}
+use Rattle.line_reader.proofs.Attributes.{attribute-read, attribute-missed, attribute-skipped}
 use Rattle.plan.specs.Inside.{Ran, codesOf, valuesOf, ranOf, ranSteps}
 
 -- ---- one step
@@ -36,12 +38,17 @@ module _ {A : Type 0} (f : Step → A) (t : List ℕ) where
   unfolding readStep
   step-whole vs rest bs end h g = rw (h, g)
 
--- its five lines, read one after the other from a position on
-module _ {A : Type 0} (f : Step → A) (text : List ℕ) (at : ℕ) (vs : List ℕ) (p : Place) (a : Attribute)
-    (lines : linesAt stepKinds text (from at) ≡ record { values = vs; place = p }) (attribute : a ≡ attributeAt attributeKey text p) where
+-- its five lines, read one after the other from a position on by the table for reading
+module _ {A : Type 0} (f : Step → A) (table text : List ℕ) (at : ℕ) (vs : List ℕ) (p : Place) (a : Attribute) (is : table ≡ readingTable)
+    (lines : linesBy table stepKinds text (from at) ≡ record { values = vs; place = p }) (read-by : a ≡ attributeBy table attributeKey text p) where
+  attribute : a ≡ attributeBy readingTable attributeKey text p
+  attribute = read-by ∙ ap (λ (t : List ℕ). attributeBy t attributeKey text p) is
+
   operands : readLines stepKinds (drop at text) ≡ cond (p .fault) (faultAt (p .lines)) (read vs (drop (p .at) text))
   unfolding stepKinds
-  operands = lines-read stepKinds text at (omega arith) ∙ ap (λ (v : Values). seen v text) lines
+  operands =
+      lines-read stepKinds text at (omega arith)
+      ∙ ap (λ (v : Values). seen v text) (ap (λ (t : List ℕ). linesBy t stepKinds text (from at)) (sym is) ∙ lines)
 
   operands-by : (t : Bool) → p .fault ≡ t → readLines stepKinds (drop at text) ≡ cond t (faultAt (p .lines)) (read vs (drop (p .at) text))
   operands-by t g = operands ∙ ap (λ (x : Bool). cond x (faultAt (p .lines)) (read vs (drop (p .at) text))) g
@@ -50,11 +57,11 @@ module _ {A : Type 0} (f : Step → A) (text : List ℕ) (at : ℕ) (vs : List �
   unfolding stepKinds
   fault-by true g h =
       let e : a .place .lines ≡ p .lines = ap (λ (x : Place). x .lines) (attribute-skipped attributeKey text p a attribute g) in
-      let m : p .lines ≤ 0 + 4 = rw lines at (lines-most text stepKinds (from at)) in
+      let m : p .lines ≤ 0 + 4 = rw lines at (lines-most text (readValueBy table) stepKinds (from at)) in
       (operands-at-fault f (drop at text) (p .lines) (operands-by true g) ∙ ap faultAt (sym e), omega (arith, e, m))
   fault-by false g h =
       let m = attribute-missed attributeKey text p a attribute g h in
-      let c : p .lines ≡ 0 + 4 = rw lines at (lines-counted stepKinds text (from at) (omega arith)) g in
+      let c : p .lines ≡ 0 + 4 = rw lines at (lines-counted (readValueBy table) stepKinds text (from at) (omega arith)) g in
       let e : a .place .lines ≡ 5 = ap (λ (x : Place). x .lines) (m .1) ∙ ap (λ (n : ℕ). (n + 1) % 2 ^ 32) c in
       (attribute-at-fault f (drop at text) vs (drop (p .at) text) (operands-by false g) (m .0) ∙ ap faultAt (sym e), omega (arith, e))
 

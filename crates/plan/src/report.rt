@@ -8,6 +8,7 @@ ghost use lib.Seq.{sets};
 ghost use Rattle.format.specs.Sheet.{sheetText};
 ghost use Rattle.format.specs.Report.{resultKinds, report, outcome, buffer};
 ghost use Rattle.credentials.specs.Validity.{valid};
+ghost use Rattle.hex_tables.specs.Tables.{writingTable};
 ghost use Rattle.line_writer.specs.Inside.{linesPut};
 ghost use Rattle.plan.specs.Inside.{answersText};
 use codes::DONE;
@@ -41,8 +42,14 @@ fn results_length(codes: &[u8; 256], values: &[u64; 256], count: usize) -> usize
 }
 
 // The lines of the first count results at the front of buf: the position past them.
-fn write_results(buf: &mut [u8], codes: &[u8; 256], values: &[u64; 256], count: usize) -> usize
-    requires { ⌜ (length (now codes) ≡ 256) × (length (now values) ≡ 256) × (count ≤ 256) × (length (answersText (take count (now codes)) (take count (now values))) ≤ length (now buf)) ⌝ }
+fn write_results(
+    buf: &mut [u8],
+    codes: &[u8; 256],
+    values: &[u64; 256],
+    count: usize,
+    table: &[u8; 16],
+) -> usize
+    requires { ⌜ (length (now codes) ≡ 256) × (length (now values) ≡ 256) × (count ≤ 256) × (now table ≡ writingTable) × (length (answersText (take count (now codes)) (take count (now values))) ≤ length (now buf)) ⌝ }
     ensures { λ r. ⌜ (r ≡ length (answersText (take count (now (codes .entry))) (take count (now (values .entry))))) × (now (buf .exit) ≡ sets (now (buf .entry)) 0 (answersText (take count (now (codes .entry))) (take count (now (values .entry))))) ⌝ }
 {
     let mut at: usize = 0;
@@ -50,18 +57,18 @@ fn write_results(buf: &mut [u8], codes: &[u8; 256], values: &[u64; 256], count: 
     while j < count {
         let code = wide(codes[j]);
         let value = values[j];
-        at = write_result(buf, at, code, value);
+        at = write_result(buf, at, code, value, table);
         j += 1;
     }
     at
 }
 
-// The two lines of a result into buf from the position at on, each that fits: the position past them.
-fn write_result(buf: &mut [u8], at: usize, code: u64, value: u64) -> usize
-    ensures { λ r. ⌜ (r ≡ linesPut resultKinds (code ∷ value ∷ []) (now (buf .entry)) at .at) × (now (buf .exit) ≡ linesPut resultKinds (code ∷ value ∷ []) (now (buf .entry)) at .buffer) ⌝ }
+// The two lines of a result, by the table, into buf from the position at on, each that fits: the position past them.
+fn write_result(buf: &mut [u8], at: usize, code: u64, value: u64, table: &[u8; 16]) -> usize
+    ensures { λ r. ⌜ (r ≡ linesPut (now (table .entry)) resultKinds (code ∷ value ∷ []) (now (buf .entry)) at .at) × (now (buf .exit) ≡ linesPut (now (table .entry)) resultKinds (code ∷ value ∷ []) (now (buf .entry)) at .buffer) ⌝ }
 {
     let p = write_decimal(buf, at, b"code=", code);
-    write_hex(buf, p, b"value=", VALUE_DIGITS, value)
+    write_hex(buf, p, b"value=", VALUE_DIGITS, value, table)
 }
 
 // The report of the first count results and the valid credentials last at the front of buf, or that it does not fit.
@@ -71,14 +78,15 @@ pub(crate) fn write_report(
     values: &[u64; 256],
     count: usize,
     last: Credentials,
+    table: &[u8; 16],
 ) -> Outcome
-    requires { ⌜ (length (now codes) ≡ 256) × (length (now values) ≡ 256) × (count ≤ 256) × (valid last ≡ true) ⌝ }
+    requires { ⌜ (length (now codes) ≡ 256) × (length (now values) ≡ 256) × (count ≤ 256) × (now table ≡ writingTable) × (valid last ≡ true) ⌝ }
     ensures { λ r. ⌜ (r ≡ outcome (report (answersText (take count (now (codes .entry))) (take count (now (values .entry))) ++ sheetText last)) (length (now (buf .entry)))) × (now (buf .exit) ≡ buffer (report (answersText (take count (now (codes .entry))) (take count (now (values .entry))) ++ sheetText last)) (now (buf .entry))) ⌝ }
 {
     let size = results_length(codes, values, count) + sheet_writer::sheet_length(last);
     if size <= buf.len() {
-        let at = write_results(buf, codes, values, count);
-        sheet_writer::write_at(buf, at, last);
+        let at = write_results(buf, codes, values, count, table);
+        sheet_writer::write_at(buf, at, last, table);
         return Outcome {
             code: DONE,
             line: 0,

@@ -5,6 +5,7 @@ ghost use Rattle.credentials.specs.Validity.{valid};
 ghost use Rattle.format.specs.Line.{read};
 ghost use Rattle.format.specs.Sheet.{readFront};
 ghost use Rattle.format.specs.Report.{verdict, outcome, buffer};
+ghost use Rattle.hex_tables.specs.Tables.{readingTable, writingTable};
 ghost use Rattle.plan.specs.Inside.{ranSteps, seenSteps, StepsEnd};
 use crate::MOST_STEPS;
 use crate::SHEET_LINES;
@@ -16,6 +17,8 @@ use codes::INVALID_CREDENTIALS;
 use codes::MALFORMED;
 use credentials::Credentials;
 use format::Outcome;
+use hex_tables::reading_table;
+use hex_tables::writing_table;
 use sheet_reader::Front;
 
 // How many steps there are and what the last one leaves, or the first line of the steps that is at fault.
@@ -32,8 +35,9 @@ fn run_steps(
     start: Credentials,
     codes: &mut [u8; 256],
     values: &mut [u64; 256],
+    table: &[u8; 256],
 ) -> StepsRun
-    requires { ⌜ (length (now codes) ≡ 256) × (length (now values) ≡ 256) ⌝ }
+    requires { ⌜ (length (now codes) ≡ 256) × (length (now values) ≡ 256) × (now table ≡ readingTable) ⌝ }
     ensures { λ r. ⌜ (seenSteps r (now (codes .exit)) (now (values .exit)) ≡ ranSteps 256 start (drop first (now (text .entry)))) × StepsEnd r × (length (now (codes .exit)) ≡ 256) × (length (now (values .exit)) ≡ 256) ⌝ }
 {
     let mut held = start;
@@ -43,7 +47,7 @@ fn run_steps(
         if count == MOST_STEPS {
             return StepsRun::Fault(STEP_LINES * (count as u32) + 1);
         }
-        match run_step(text, at, held) {
+        match run_step(text, at, held, table) {
             StepRun::Fault(line) => {
                 return StepsRun::Fault(STEP_LINES * (count as u32) + line);
             }
@@ -63,10 +67,16 @@ fn run_steps(
 pub fn run_plan(plan: &[u8], report: &mut [u8]) -> Outcome
     ensures { λ r. ⌜ (r ≡ outcome (verdict (now (plan .entry))) (length (now (report .entry)))) × (now (report .exit) ≡ buffer (verdict (now (plan .entry))) (now (report .entry))) ⌝ }
 {
-    match sheet_reader::read_front(plan) {
+    let reading = reading_table();
+    let writing = writing_table();
+    match sheet_reader::read_front(plan, &reading) {
         Front::Fault(line) => refused(MALFORMED, line),
-        Front::Invalid(start, first) => run_from(plan, first, start, false, report),
-        Front::Sheet(start, first) => run_from(plan, first, start, true, report),
+        Front::Invalid(start, first) => {
+            run_from(plan, first, start, false, report, &reading, &writing)
+        }
+        Front::Sheet(start, first) => {
+            run_from(plan, first, start, true, report, &reading, &writing)
+        }
     }
 }
 
@@ -78,19 +88,21 @@ fn run_from(
     start: Credentials,
     accepted: bool,
     report: &mut [u8],
+    reading: &[u8; 256],
+    writing: &[u8; 16],
 ) -> Outcome
-    requires { ⌜ (readFront (now plan) ≡ read start (drop first (now plan))) × (valid start ≡ accepted) ⌝ }
+    requires { ⌜ (readFront (now plan) ≡ read start (drop first (now plan))) × (valid start ≡ accepted) × (now reading ≡ readingTable) × (now writing ≡ writingTable) ⌝ }
     ensures { λ r. ⌜ (r ≡ outcome (verdict (now (plan .entry))) (length (now (report .entry)))) × (now (report .exit) ≡ buffer (verdict (now (plan .entry))) (now (report .entry))) ⌝ }
 {
     let mut codes = [0u8; 256];
     let mut values = [0u64; 256];
-    match run_steps(plan, first, start, &mut codes, &mut values) {
+    match run_steps(plan, first, start, &mut codes, &mut values, reading) {
         StepsRun::Fault(line) => {
             return refused(MALFORMED, SHEET_LINES + line);
         }
         StepsRun::Done(count, last) => {
             if accepted {
-                return write_report(report, &codes, &values, count, last);
+                return write_report(report, &codes, &values, count, last, writing);
             }
             return refused(INVALID_CREDENTIALS, 0);
         }

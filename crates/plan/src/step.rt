@@ -5,7 +5,8 @@ ghost use lib.ListN.{drop};
 ghost use Rattle.format.specs.Line.{mapped};
 ghost use Rattle.format.specs.Step.{stepKinds, readStep};
 ghost use Rattle.rules.specs.Run.{result};
-ghost use Rattle.line_reader.specs.Inside.{linesAt};
+ghost use Rattle.hex_tables.specs.Tables.{readingTable};
+ghost use Rattle.line_reader.specs.Positions.{linesBy};
 ghost use Rattle.plan.specs.Inside.{seenStep, StepEnd};
 use credentials::Credentials;
 use line_reader::Place;
@@ -38,14 +39,14 @@ pub(crate) enum StepRun {
     Fault(u32),
 }
 
-// The lines of a call's number and its operands at a place.
-fn read_operands(text: &[u8], place: Place) -> Operands
-    ensures { λ r. ⌜ linesAt stepKinds (now (text .entry)) place ≡ record { values = r .number ∷ r .a ∷ r .b ∷ r .c ∷ []; place = r .place } ⌝ }
+// The lines of a call's number and its operands, by the table, at a place.
+fn read_operands(text: &[u8], place: Place, table: &[u8; 256]) -> Operands
+    ensures { λ r. ⌜ linesBy (now (table .entry)) stepKinds (now (text .entry)) place ≡ record { values = r .number ∷ r .a ∷ r .b ∷ r .c ∷ []; place = r .place } ⌝ }
 {
     let number = read_decimal(text, place, b"call=", LARGEST_CALL);
-    let a = read_hex16(text, number.place, b"a=");
-    let b = read_hex16(text, a.place, b"b=");
-    let c = read_hex16(text, b.place, b"c=");
+    let a = read_hex16(text, number.place, b"a=", table);
+    let b = read_hex16(text, a.place, b"b=", table);
+    let c = read_hex16(text, b.place, b"c=", table);
     let place = c.place;
     Operands {
         number: number.value,
@@ -57,7 +58,8 @@ fn read_operands(text: &[u8], place: Place) -> Operands
 }
 
 // The step at the position at, performed on the credentials held.
-pub(crate) fn run_step(text: &[u8], at: usize, held: Credentials) -> StepRun
+pub(crate) fn run_step(text: &[u8], at: usize, held: Credentials, table: &[u8; 256]) -> StepRun
+    requires { ⌜ now table ≡ readingTable ⌝ }
     ensures { λ r. ⌜ (seenStep r (now (text .entry)) ≡ mapped (result held) (readStep (drop at (now (text .entry))))) × StepEnd r ⌝ }
 {
     let start = Place {
@@ -65,8 +67,8 @@ pub(crate) fn run_step(text: &[u8], at: usize, held: Credentials) -> StepRun
         lines: 0,
         fault: false,
     };
-    let operands = read_operands(text, start);
-    let attribute = read_attribute(text, operands.place, b"attr=");
+    let operands = read_operands(text, start, table);
+    let attribute = read_attribute(text, operands.place, b"attr=", table);
     let end = attribute.place;
     if end.fault {
         return StepRun::Fault(end.lines);

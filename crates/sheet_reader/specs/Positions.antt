@@ -6,7 +6,8 @@ use lib.ListN.{length}
 use Rattle.credentials.specs.Validity.{valid}
 use Rattle.credentials.specs.declared.Credentials.{Credentials}
 use Rattle.format.specs.Line.{Read, read, faultAt}
-use Rattle.format.specs.Sheet.{readFront}
+use Rattle.format.specs.Sheet.{sheetKinds, credentialsOf, readFront}
+use Rattle.line_reader.specs.Positions.{from, Values, linesBy}
 use Rattle.sheet_reader.specs.declared.Front.{Front}
 use Rattle.sheet_reader.specs.declared.Front.the-variants.{Sheet, Invalid, Fault}
 
@@ -21,3 +22,13 @@ placedFront text (faultAt line) = Fault line
 
 unfoldable pub frontOf : List ℕ → Front
 frontOf text = placedFront text (readFront text)
+
+-- ---- with its hex digits by a table
+
+-- what lines come to
+abbrev pub fronted : Values → Front
+fronted v = cond (v .place .fault) (Fault (v .place .lines)) (judged (credentialsOf (v .values)) (v .place .at))
+
+-- the lines of a sheet from the start of a text on; by the table for reading it is frontOf
+unfoldable pub frontBy : List ℕ → List ℕ → Front
+frontBy table text = fronted (linesBy table sheetKinds text (from 0))

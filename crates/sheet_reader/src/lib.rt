@@ -1,12 +1,13 @@
 // The sheet reader: a text that is to be a sheet, or that begins with one. IDs, sets and flags are each read by a reader of their own.
 //
-// The sheet itself is defined in the crate `format`. Every function is proved, for every argument: no public one has a `requires`. The crate
+// The sheet itself is defined in the crate `format`; the table that its hex digits are read by is made once and lent. Every function is proved, for every argument: no public one has a `requires`. The crate
 // assumes nothing.
 ghost use mathlib.Core.Path.{_≡_};
-ghost use mathlib.Core.List.{[], _∷_};
+ghost use Prim.Native.Nat.{ℕ};
+ghost use mathlib.Core.List.{List, [], _∷_};
 ghost use Rattle.format.specs.Sheet.{idKinds, setKinds, flagKinds, idValues, setValues, readSheet, sheetCode, sheetLine};
-ghost use Rattle.line_reader.specs.Inside.{linesAt};
-ghost use Rattle.sheet_reader.specs.Positions.{frontOf, judged};
+ghost use Rattle.line_reader.specs.Positions.{linesBy};
+ghost use Rattle.sheet_reader.specs.Positions.{frontBy, judged};
 use codes::DONE;
 use codes::INVALID_CREDENTIALS;
 use codes::MALFORMED;
@@ -15,6 +16,7 @@ use credentials::Ids;
 use credentials::Sets;
 use credentials::is_valid;
 use format::SheetReading;
+use hex_tables::reading_table;
 use line_reader::Place;
 use line_reader::read_decimal;
 use line_reader::read_hex2;
@@ -57,7 +59,7 @@ struct FlagLines {
 
 // The lines of four IDs at a place, by the letter in their keys: u for users, g for groups.
 fn read_ids(text: &[u8], place: Place, letter: u8) -> IdLines
-    ensures { λ r. ⌜ linesAt (idKinds (letter ∷ [])) (now (text .entry)) place ≡ record { values = idValues (r .ids); place = r .place } ⌝ }
+    ensures { λ r. ⌜ ((table : List ℕ) → linesBy table (idKinds (letter ∷ [])) (now (text .entry)) place ≡ record { values = idValues (r .ids); place = r .place }) ⌝ }
 {
     let real_key = [b'r', letter, b'i', b'd', b'='];
     let real = read_decimal(text, place, &real_key, LARGEST_WRITTEN_ID);
@@ -77,15 +79,15 @@ fn read_ids(text: &[u8], place: Place, letter: u8) -> IdLines
     IdLines { ids, place }
 }
 
-// The lines of the capability sets at a place.
-fn read_sets(text: &[u8], place: Place) -> SetLines
-    ensures { λ r. ⌜ linesAt setKinds (now (text .entry)) place ≡ record { values = setValues (r .sets); place = r .place } ⌝ }
+// The lines of the capability sets, by the table, at a place.
+fn read_sets(text: &[u8], place: Place, table: &[u8; 256]) -> SetLines
+    ensures { λ r. ⌜ linesBy (now (table .entry)) setKinds (now (text .entry)) place ≡ record { values = setValues (r .sets); place = r .place } ⌝ }
 {
-    let permitted = read_hex16(text, place, b"permitted=");
-    let inheritable = read_hex16(text, permitted.place, b"inheritable=");
-    let effective = read_hex16(text, inheritable.place, b"effective=");
-    let bounding = read_hex16(text, effective.place, b"bounding=");
-    let ambient = read_hex16(text, bounding.place, b"ambient=");
+    let permitted = read_hex16(text, place, b"permitted=", table);
+    let inheritable = read_hex16(text, permitted.place, b"inheritable=", table);
+    let effective = read_hex16(text, inheritable.place, b"effective=", table);
+    let bounding = read_hex16(text, effective.place, b"bounding=", table);
+    let ambient = read_hex16(text, bounding.place, b"ambient=", table);
     let sets = Sets {
         permitted: permitted.value,
         inheritable: inheritable.value,
@@ -97,11 +99,11 @@ fn read_sets(text: &[u8], place: Place) -> SetLines
     SetLines { sets, place }
 }
 
-// The lines of securebits and no-new-privs at a place.
-fn read_flags(text: &[u8], place: Place) -> FlagLines
-    ensures { λ r. ⌜ linesAt flagKinds (now (text .entry)) place ≡ record { values = r .securebits ∷ r .nnp ∷ []; place = r .place } ⌝ }
+// The lines of securebits, by the table, and no-new-privs at a place.
+fn read_flags(text: &[u8], place: Place, table: &[u8; 256]) -> FlagLines
+    ensures { λ r. ⌜ linesBy (now (table .entry)) flagKinds (now (text .entry)) place ≡ record { values = r .securebits ∷ r .nnp ∷ []; place = r .place } ⌝ }
 {
-    let securebits = read_hex2(text, place, b"securebits=");
+    let securebits = read_hex2(text, place, b"securebits=", table);
     let nnp = read_decimal(text, securebits.place, b"nnp=", LARGEST_FLAG);
     let place = nnp.place;
     FlagLines {
@@ -111,9 +113,9 @@ fn read_flags(text: &[u8], place: Place) -> FlagLines
     }
 }
 
-// The sheet at the start of a text.
-pub fn read_front(text: &[u8]) -> Front
-    ensures { λ r. ⌜ r ≡ frontOf (now (text .entry)) ⌝ }
+// The sheet at the start of a text, its hex digits by the table.
+pub fn read_front(text: &[u8], table: &[u8; 256]) -> Front
+    ensures { λ r. ⌜ r ≡ frontBy (now (table .entry)) (now (text .entry)) ⌝ }
 {
     let start = Place {
         at: 0,
@@ -130,12 +132,12 @@ pub fn read_front(text: &[u8]) -> Front
     if past_groups.fault {
         return Front::Fault(past_groups.lines);
     }
-    let held = read_sets(text, past_groups);
+    let held = read_sets(text, past_groups, table);
     let past_sets = held.place;
     if past_sets.fault {
         return Front::Fault(past_sets.lines);
     }
-    let flags = read_flags(text, past_sets);
+    let flags = read_flags(text, past_sets, table);
     let end = flags.place;
     if end.fault {
         return Front::Fault(end.lines);
@@ -167,7 +169,8 @@ fn judged(read: Credentials, past: usize) -> Front
 pub fn read_sheet(text: &[u8]) -> SheetReading
     ensures { λ r. ⌜ r ≡ readSheet (now (text .entry)) ⌝ }
 {
-    match read_front(text) {
+    let table = reading_table();
+    match read_front(text, &table) {
         Front::Fault(line) => {
             return SheetReading::Malformed(line);
         }

@@ -75,26 +75,27 @@ length-of-sheet c =
 
 -- ---- the groups, one after the other
 
--- a buffer and a position are what lines leave
-abbrev Puts : List Kind → List ℕ → List ℕ → ℕ → List ℕ → ℕ → Type 0
-Puts ks vs old at next to = (to ≡ linesPut ks vs old at .at) × (next ≡ linesPut ks vs old at .buffer)
+module _ (table : List ℕ) where
+  -- a buffer and a position are what lines leave
+  abbrev Puts : List Kind → List ℕ → List ℕ → ℕ → List ℕ → ℕ → Type 0
+  Puts ks vs old at next to = (to ≡ linesPut table ks vs old at .at) × (next ≡ linesPut table ks vs old at .buffer)
 
--- one group after the lines before it
-puts-then : (ks ls : List Kind) (vs ws old one two : List ℕ) (at p q : ℕ) → length ks ≡ length vs
-    → Puts ks vs old at one p → Puts ls ws one p two q → Puts (ks ++ ls) (vs ++ ws) old at two q
-puts-then ks ls vs ws old one two at p q n e f = rw (lines-grouped ks ls vs ws old at n, ← (e .0), ← (e .1)) f
+  -- one group after the lines before it
+  puts-then : (ks ls : List Kind) (vs ws old one two : List ℕ) (at p q : ℕ) → length ks ≡ length vs
+      → Puts ks vs old at one p → Puts ls ws one p two q → Puts (ks ++ ls) (vs ++ ws) old at two q
+  puts-then ks ls vs ws old one two at p q n e f = rw (lines-grouped table ks ls vs ws old at n, ← (e .0), ← (e .1)) f
 
--- the lines of a sheet as its groups put them
-pub sheet-put : (c : Credentials) (old one two three four : List ℕ) (at p q r s : ℕ)
-    → Puts uidKinds (idValues (c .uids)) old at one p
-    → Puts gidKinds (idValues (c .gids)) one p two q
-    → Puts setKinds (setValues (c .sets)) two q three r
-    → Puts flagKinds (flagValues (c .securebits) (c .nnp)) three r four s
-    → Puts sheetKinds (sheetValues c) old at four s
-unfolding sheetKinds idKinds uidKinds gidKinds setKinds
-sheet-put c old one two three four at p q r s e f g h =
-    let flags = flagValues (c .securebits) (c .nnp) in
-    let sets = setValues (c .sets) in
-    puts-then uidKinds (gidKinds ++ (setKinds ++ flagKinds)) (idValues (c .uids)) (idValues (c .gids) ++ (sets ++ flags)) old one four at p s refl e
-    (puts-then gidKinds (setKinds ++ flagKinds) (idValues (c .gids)) (sets ++ flags) one two four p q s refl f
-    (puts-then setKinds flagKinds sets flags two three four q r s refl g h))
+  -- the lines of a sheet as its groups put them
+  pub sheet-put : (c : Credentials) (old one two three four : List ℕ) (at p q r s : ℕ)
+      → Puts uidKinds (idValues (c .uids)) old at one p
+      → Puts gidKinds (idValues (c .gids)) one p two q
+      → Puts setKinds (setValues (c .sets)) two q three r
+      → Puts flagKinds (flagValues (c .securebits) (c .nnp)) three r four s
+      → Puts sheetKinds (sheetValues c) old at four s
+  unfolding sheetKinds idKinds uidKinds gidKinds setKinds
+  sheet-put c old one two three four at p q r s e f g h =
+      let flags = flagValues (c .securebits) (c .nnp) in
+      let sets = setValues (c .sets) in
+      puts-then uidKinds (gidKinds ++ (setKinds ++ flagKinds)) (idValues (c .uids)) (idValues (c .gids) ++ (sets ++ flags)) old one four at p s refl e
+      (puts-then gidKinds (setKinds ++ flagKinds) (idValues (c .gids)) (sets ++ flags) one two four p q s refl f
+      (puts-then setKinds flagKinds sets flags two three four q r s refl g h))

@@ -1,6 +1,6 @@
 -- `sheet_reader::read_flags` meets its contract. Assumes nothing.
 use Rattle.format.specs.Sheet.{flagKinds}
-use Rattle.line_reader.specs.Inside.{linesAt}
+use Rattle.line_reader.specs.Positions.{linesAt}
 use borrow.Author.Needs.{needs}
 use Rattle.sheet_reader.proofs.read_flags.Statement.{statement}
 use Rattle.sheet_reader.proofs.read_flags.Tie as tie

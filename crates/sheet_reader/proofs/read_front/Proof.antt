@@ -10,7 +10,7 @@ read-ids-requires c κs = tt
 
 returns : tie.Need-returns
 unfolding uidKinds
-returns c = users-at-fault _ _ _ (c .before .before .read-ids .ensures) (c .if1 .taken)
+returns c = users-at-fault _ _ _ _ (c .before .before .read-ids .ensures _) (c .if1 .taken)
 
 read-ids-requires-2 : tie.Need-read-ids-requires-2
 read-ids-requires-2 c κs = tt
@@ -20,7 +20,7 @@ unfolding uidKinds gidKinds
 returns-2 c =
     let groups = c .before .before in
     let users = groups .before .before .before in
-    groups-at-fault _ _ _ (users .read-ids .ensures) _ _ (groups .read-ids2 .ensures) (c .if2 .taken)
+    groups-at-fault _ _ _ _ (users .read-ids .ensures _) _ _ (groups .read-ids2 .ensures _) (c .if2 .taken)
 
 read-sets-requires : tie.Need-read-sets-requires
 read-sets-requires c κs = tt
@@ -31,7 +31,7 @@ returns-3 c =
     let sets = c .before .before in
     let groups = sets .before .before .before in
     let users = groups .before .before .before in
-    sets-at-fault _ _ _ (users .read-ids .ensures) _ _ (groups .read-ids2 .ensures) _ _ (sets .read-sets .ensures) (c .if3 .taken)
+    sets-at-fault _ _ _ _ (users .read-ids .ensures _) _ _ (groups .read-ids2 .ensures _) _ _ (sets .read-sets .ensures) (c .if3 .taken)
 
 read-flags-requires : tie.Need-read-flags-requires
 read-flags-requires c κs = tt
@@ -43,7 +43,7 @@ returns-4 c =
     let sets = flags .before .before .before in
     let groups = sets .before .before .before in
     let users = groups .before .before .before in
-    front-at-fault _ _ _ _ _ _ _ _ _ _ (users .read-ids .ensures) (groups .read-ids2 .ensures) (sets .read-sets .ensures) (flags .read-flags .ensures)
+    front-at-fault _ _ _ _ _ _ _ _ _ _ _ (users .read-ids .ensures _) (groups .read-ids2 .ensures _) (sets .read-sets .ensures) (flags .read-flags .ensures)
     (c .if4 .taken)
 
 judged-requires : tie.Need-judged-requires
@@ -57,7 +57,7 @@ returns-5 c =
     let groups = sets .before .before .before in
     let users = groups .before .before .before in
     c .judged .ensures
-    ∙ front-read _ _ _ _ _ _ _ _ _ _ (users .read-ids .ensures) (groups .read-ids2 .ensures) (sets .read-sets .ensures) (flags .read-flags .ensures)
+    ∙ front-read _ _ _ _ _ _ _ _ _ _ _ (users .read-ids .ensures _) (groups .read-ids2 .ensures _) (sets .read-sets .ensures) (flags .read-flags .ensures)
     (c .before .before .before .before .before .if4 .left)
 
 pub read-front-spec : {M : Type 1} → statement M

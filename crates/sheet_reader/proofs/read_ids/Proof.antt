@@ -1,6 +1,6 @@
 -- `sheet_reader::read_ids` meets its contract. Assumes nothing.
 use Rattle.format.specs.Sheet.{idKinds}
-use Rattle.line_reader.specs.Inside.{linesAt}
+use Rattle.line_reader.specs.Positions.{linesAt}
 use borrow.Author.Needs.{needs}
 use Rattle.sheet_reader.proofs.read_ids.Statement.{statement}
 use Rattle.sheet_reader.proofs.read_ids.Tie as tie
@@ -31,7 +31,7 @@ read-decimal-requires-4 c κs = tt
 
 returns : tie.Need-returns
 unfolding linesAt idKinds
-returns c =
+returns c table =
     let c4 = c .before in
     let c3 = c4 .before .before in
     let c2 = c3 .before .before in

@@ -1,6 +1,6 @@
 -- `sheet_reader::read_sets` meets its contract. Assumes nothing.
 use Rattle.format.specs.Sheet.{setKinds}
-use Rattle.line_reader.specs.Inside.{linesAt}
+use Rattle.line_reader.specs.Positions.{linesAt}
 use borrow.Author.Needs.{needs}
 use Rattle.sheet_reader.proofs.read_sets.Statement.{statement}
 use Rattle.sheet_reader.proofs.read_sets.Tie as tie

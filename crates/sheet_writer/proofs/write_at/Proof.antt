@@ -18,7 +18,7 @@ refused-requires c κs = tt
 returns : tie.Need-returns
 returns c =
     let a = c .before .before .before .before .before .before .args in
-    let n = sheet-no-room (a .held) (a .at) (a .buf .now) (sym (c .before .before .before .if1 .taken) ∙ c .before .before .before .before .is-valid .ensures) (omega (arith, c .before .if2 .taken, c .before .before .sheet-length .ensures .0)) in
+    let n = sheet-no-room (a .table .now) (a .held) (a .at) (a .buf .now) (sym (c .before .before .before .if1 .taken) ∙ c .before .before .before .before .is-valid .ensures) (omega (arith, c .before .if2 .taken, c .before .before .sheet-length .ensures .0)) in
     (c .refused .ensures ∙ n .0, n .1)
 
 refused-requires-2 : tie.Need-refused-requires-2
@@ -27,27 +27,27 @@ refused-requires-2 c κs = tt
 returns-2 : tie.Need-returns-2
 returns-2 c =
     let a = c .before .before .before .before .before .before .before .args in
-    let n = sheet-no-room (a .held) (a .at) (a .buf .now) (sym (c .before .before .before .before .if1 .taken) ∙ c .before .before .before .before .before .is-valid .ensures) (omega (arith, c .before .if3 .taken, c .before .before .if2 .left, c .before .before .before .sheet-length .ensures .0)) in
+    let n = sheet-no-room (a .table .now) (a .held) (a .at) (a .buf .now) (sym (c .before .before .before .before .if1 .taken) ∙ c .before .before .before .before .before .is-valid .ensures) (omega (arith, c .before .if3 .taken, c .before .before .if2 .left, c .before .before .before .sheet-length .ensures .0)) in
     (c .refused2 .ensures ∙ n .0, n .1)
 
 write-lines-requires : tie.Need-write-lines-requires
 write-lines-requires c κs = tt
 
-cast-t11 : tie.Need-cast-t11
-cast-t11 c = search needs
+cast-t12 : tie.Need-cast-t12
+cast-t12 c = search needs
 
 same-length : tie.Need-same-length
 same-length c = search needs
 
 returns-3 : tie.Need-returns-3
 returns-3 c =
-    sheet-written _ _ _ _ _ (sym (c .before .before .before .before .before .before .before .if1 .taken) ∙ c .before .before .before .before .before .before .before .before .is-valid .ensures) (c .before .before .before .before .before .before .sheet-length .ensures .0) (omega (arith, c .before .before .before .before .if3 .left, c .before .before .before .before .before .if2 .left)) (c .before .before .write-lines .ensures .1)
+    sheet-written _ _ _ _ _ _ (sym (c .before .before .before .before .before .before .before .if1 .taken) ∙ c .before .before .before .before .before .before .before .before .is-valid .ensures) (c .before .before .before .before .before .before .sheet-length .ensures .0) (omega (arith, c .before .before .before .before .if3 .left, c .before .before .before .before .before .if2 .left)) (c .before .before .write-lines .ensures .1)
 
 refused-requires-3 : tie.Need-refused-requires-3
 refused-requires-3 c κs = tt
 
 returns-4 : tie.Need-returns-4
-returns-4 c = let n = sheet-invalid _ _ _ (sym (c .before .if1 .left) ∙ c .before .before .is-valid .ensures) in (c .refused3 .ensures ∙ n .0, n .1)
+returns-4 c = let n = sheet-invalid _ _ _ _ (sym (c .before .if1 .left) ∙ c .before .before .is-valid .ensures) in (c .refused3 .ensures ∙ n .0, n .1)
 
 pub write-at-spec : {M : Type 1} → statement M
 write-at-spec =
@@ -60,7 +60,7 @@ write-at-spec =
     refused-requires-2
     returns-2
     write-lines-requires
-    cast-t11
+    cast-t12
     same-length
     returns-3
     refused-requires-3

@@ -34,7 +34,7 @@ same-length c = search needs
 
 returns : tie.Need-returns
 unfolding linesPut idKinds
-returns c =
+returns c table =
     let c4 = c .before .before in
     let c3 = c4 .before .before .before .before .before in
     let c2 = c3 .before .before .before .before .before in

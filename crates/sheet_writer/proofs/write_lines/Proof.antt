@@ -27,7 +27,7 @@ returns c =
     let c3 = c4 .before .before .before .before in
     let c2 = c3 .before .before .before .before in
     let c1 = c2 .before .before .before .before in
-    sheet-put _ _ _ _ _ _ _ _ _ _ _ (c1 .write-ids .ensures) (c2 .write-ids2 .ensures) (c3 .write-sets .ensures) (c4 .write-flags .ensures)
+    sheet-put _ _ _ _ _ _ _ _ _ _ _ _ (c1 .write-ids .ensures _) (c2 .write-ids2 .ensures _) (c3 .write-sets .ensures) (c4 .write-flags .ensures)
 
 pub write-lines-spec : {M : Type 1} → statement M
 write-lines-spec =

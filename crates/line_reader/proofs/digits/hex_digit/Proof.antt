@@ -1,55 +1,18 @@
 -- `line_reader::digits::hex_digit` meets its contract. Assumes nothing.
-use borrow.Author.Tests.{le-ltb, lt-ltb}
+use mathlib.Core.Path.{_∙_}
 use borrow.Author.Needs.{needs}
+use borrow.Author.Tests.{lt-ltb}
 use Rattle.line_reader.proofs.digits.hex_digit.Statement.{statement}
 use Rattle.line_reader.proofs.digits.hex_digit.Tie as tie
 
+element-copy-out-wide : tie.Need-element-copy-out-wide
+element-copy-out-wide c = search needs
+
+wide-requires : tie.Need-wide-requires
+wide-requires c κs = tt
+
 returns : tie.Need-returns
-returns c = simp (lt-ltb _ _ (c .if1 .taken))
-
-cast-result : tie.Need-cast-result
-cast-result c = search needs
-
-returns-2 : tie.Need-returns-2
-returns-2 c =
-    simp (
-      lt-ltb _ _ (c .if2 .taken),
-      le-ltb _ _ (c .before .if1 .left),
-    )
-
-returns-3 : tie.Need-returns-3
-returns-3 c =
-    simp (
-      lt-ltb _ _ (c .if3 .taken),
-      le-ltb _ _ (c .before .if2 .left),
-      le-ltb _ _ (c .before .before .if1 .left),
-    )
-
-sub-result : tie.Need-sub-result
-sub-result c = search needs
-
-cast-result-2 : tie.Need-cast-result-2
-cast-result-2 c = search needs
-
-returns-4 : tie.Need-returns-4
-returns-4 c =
-    simp (
-      lt-ltb _ _ (c .if4 .taken),
-      le-ltb _ _ (c .before .if3 .left),
-      le-ltb _ _ (c .before .before .if2 .left),
-      le-ltb _ _ (c .before .before .before .if1 .left),
-    )
-
-returns-5 : tie.Need-returns-5
-returns-5 c =
-    simp (
-      le-ltb _ _ (c .if4 .left),
-      le-ltb _ _ (c .before .if3 .left),
-      le-ltb _ _ (c .before .before .if2 .left),
-      le-ltb _ _ (c .before .before .before .if1 .left),
-    )
+returns c = c .wide .ensures .0 ∙ rw (lt-ltb _ 256 (c .before .before .fits .b .fits))
 
 pub hex-digit-spec : {M : Type 1} → statement M
-hex-digit-spec =
-    tie.close
-    (tie.spec returns cast-result returns-2 returns-3 sub-result cast-result-2 returns-4 returns-5)
+hex-digit-spec = tie.close (tie.spec element-copy-out-wide wide-requires returns)

@@ -12,7 +12,7 @@ no-bytes-requires c κs = tt
 returns : tie.Need-returns
 returns c =
     let a = c .before .before .before .before .args in
-    c .no-bytes .ensures ∙ sym (attribute-short (a .key .now) (a .text .now) (a .at) (omega arith))
+    c .no-bytes .ensures ∙ sym (attribute-short (a .table .now) (a .key .now) (a .text .now) (a .at) (omega arith))
 
 no-bytes-requires-2 : tie.Need-no-bytes-requires-2
 no-bytes-requires-2 c κs = tt
@@ -20,7 +20,7 @@ no-bytes-requires-2 c κs = tt
 returns-2 : tie.Need-returns-2
 returns-2 c =
     let a = c .before .before .before .before .before .args in
-    c .no-bytes2 .ensures ∙ sym (attribute-short (a .key .now) (a .text .now) (a .at) (omega arith))
+    c .no-bytes2 .ensures ∙ sym (attribute-short (a .table .now) (a .key .now) (a .text .now) (a .at) (omega arith))
 
 starts-with-requires : tie.Need-starts-with-requires
 starts-with-requires c κs = search needs
@@ -34,7 +34,7 @@ pairs-at-requires c κs = tt
 returns-3 : tie.Need-returns-3
 returns-3 c =
     let a = c .before .before .before .before .before .before .before .args in
-    c .pairs-at .ensures ∙ sym (attribute-there (a .key .now) (a .text .now) (a .at) (sym (c .before .before .starts-with .ensures) ∙ c .before .if3 .taken))
+    c .pairs-at .ensures ∙ sym (attribute-there (a .table .now) (a .key .now) (a .text .now) (a .at) (sym (c .before .before .starts-with .ensures) ∙ c .before .if3 .taken))
 
 no-bytes-requires-3 : tie.Need-no-bytes-requires-3
 no-bytes-requires-3 c κs = tt
@@ -42,7 +42,7 @@ no-bytes-requires-3 c κs = tt
 returns-4 : tie.Need-returns-4
 returns-4 c =
     let a = c .before .before .before .before .before .before .before .args in
-    c .no-bytes3 .ensures ∙ sym (attribute-missing (a .key .now) (a .text .now) (a .at) (sym (c .before .before .starts-with .ensures) ∙ c .before .if3 .left))
+    c .no-bytes3 .ensures ∙ sym (attribute-missing (a .table .now) (a .key .now) (a .text .now) (a .at) (sym (c .before .before .starts-with .ensures) ∙ c .before .if3 .left))
 
 pub bytes-line-spec : {M : Type 1} → statement M
 bytes-line-spec =

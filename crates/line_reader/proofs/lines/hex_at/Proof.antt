@@ -12,10 +12,10 @@ use Rattle.line_reader.proofs.lines.hex_at.Statement.{statement}
 use Rattle.line_reader.proofs.lines.hex_at.Tie as tie
 
 abbrev Inv-loop : tie.InvT-loop
-Inv-loop text at n v₀ k₀ v k = (hexOf n 0 (drop at text) ≡ hexOf (n - k) v (drop (at + k) text)) × (k ≤ n) × (v < 16 ^ k)
+Inv-loop text at n table v₀ k₀ v k = (hexOf table n 0 (drop at text) ≡ hexOf table (n - k) v (drop (at + k) text)) × (k ≤ n) × (v < 16 ^ k)
 
 abbrev μ-loop : tie.MeasureT-loop
-μ-loop text at n v₀ k₀ v k = n - k
+μ-loop text at n table v₀ k₀ v k = n - k
 
 loop-holds : tie.Need-loop-holds Inv-loop μ-loop
 loop-holds c = (rw (add-zero, sub-zero), search needs, search needs)
@@ -33,7 +33,7 @@ returns : tie.Need-returns Inv-loop μ-loop
 returns c =
     let l = c .before .before .before .before in
     let a = l .before .before .args in
-    rw (l .loop .inv .0, hex-step (a .n - l .loop .k) (a .n - (l .loop .k + 1)) (l .loop .v) (a .at + l .loop .k) (a .at + (l .loop .k + 1)) (a .text .now) (omega arith) (omega arith) (omega arith), ← (c .before .hex-digit .ensures), le-ltb _ _ (c .if1 .taken))
+    rw (l .loop .inv .0, hex-step (a .table .now) (a .n - l .loop .k) (a .n - (l .loop .k + 1)) (l .loop .v) (a .at + l .loop .k) (a .at + (l .loop .k + 1)) (a .text .now) (omega arith) (omega arith) (omega arith), ← (c .before .hex-digit .ensures), le-ltb _ _ (c .if1 .taken))
 
 mul-v : tie.Need-mul-v Inv-loop μ-loop
 mul-v c =
@@ -57,13 +57,13 @@ loop-again : tie.Need-loop-again Inv-loop μ-loop
 loop-again c =
     let l = c .before .before .before .before in
     let a = l .before .before .args in (
-      rw (l .loop .inv .0, hex-step (a .n - l .loop .k) (a .n - (l .loop .k + 1)) (l .loop .v) (a .at + l .loop .k) (a .at + (l .loop .k + 1)) (a .text .now) (omega arith) (omega arith) (omega arith), ← (c .before .hex-digit .ensures), lt-ltb _ _ (c .if1 .left)),
+      rw (l .loop .inv .0, hex-step (a .table .now) (a .n - l .loop .k) (a .n - (l .loop .k + 1)) (l .loop .v) (a .at + l .loop .k) (a .at + (l .loop .k + 1)) (a .text .now) (omega arith) (omega arith) (omega arith), ← (c .before .hex-digit .ensures), lt-ltb _ _ (c .if1 .left)),
       search needs,
       hex-grows (l .loop .k) (l .loop .v) _ (l .loop .inv .2) (c .if1 .left),
     )
 
 returns-2 : tie.Need-returns-2 Inv-loop μ-loop
-returns-2 c = rw (c .before .loop .inv .0) (sym (hex-end _ _ _ (omega arith)))
+returns-2 c = rw (c .before .loop .inv .0) (sym (hex-end _ _ _ _ (omega arith)))
 
 pub hex-at-spec : {M : Type 1} → statement M
 hex-at-spec =

@@ -1,7 +1,7 @@
 -- `line_reader::lines::hex_line` meets its contract. Assumes nothing.
 use mathlib.Core.Path.{sym, _∙_}
 use native.Mathlib.Omega.{arith}
-use Rattle.format.specs.Line.{hex}
+use Rattle.hex_tables.specs.Tables.{readHexBy}
 use Rattle.line_reader.proofs.LineLaws.{hex-line-short, hex-line-no, hex-line-is, hex-line-longer, line-missing}
 use borrow.Author.Tests.{eq-eqb, ne-eqb}
 use borrow.Author.Needs.{needs}
@@ -17,12 +17,12 @@ add-size-2 c = search needs
 returns : tie.Need-returns
 returns c =
     let a = c .before .before .before .args in
-    sym (hex-line-short (a .key .now) (a .n) (a .text .now) (a .at) (omega arith))
+    sym (hex-line-short (a .table .now) (a .key .now) (a .n) (a .text .now) (a .at) (omega arith))
 
 returns-2 : tie.Need-returns-2
 returns-2 c =
     let a = c .before .before .before .before .args in
-    sym (hex-line-short (a .key .now) (a .n) (a .text .now) (a .at) (omega arith))
+    sym (hex-line-short (a .table .now) (a .key .now) (a .n) (a .text .now) (a .at) (omega arith))
 
 starts-with-requires : tie.Need-starts-with-requires
 starts-with-requires c κs = search needs
@@ -45,28 +45,28 @@ enum-told c = search needs
 returns-3 : tie.Need-returns-3
 returns-3 c =
     let a = c .before .before .before .before .before .before .before .before .before .args in
-    sym (hex-line-no (a .key .now) (a .n) (a .text .now) (a .at) (sym (c .before .before .before .before .starts-with .ensures) ∙ c .before .before .before .if3 .taken) (omega arith) (sym (c .before .before .hex-at .ensures) ∙ c .enum-told .given .1))
+    sym (hex-line-no (a .table .now) (a .key .now) (a .n) (a .text .now) (a .at) (sym (c .before .before .before .before .starts-with .ensures) ∙ c .before .before .before .if3 .taken) (omega arith) (sym (c .before .before .hex-at .ensures) ∙ c .enum-told .given .1))
 
 shared-slice-read-if4 : tie.Need-shared-slice-read-if4
 shared-slice-read-if4 c = search needs
 
-add-t19 : tie.Need-add-t19
-add-t19 c = search needs
+add-t20 : tie.Need-add-t20
+add-t20 c = search needs
 
 returns-4 : tie.Need-returns-4
 returns-4 c =
     let a = c .before .before .before .before .before .before .before .before .before .before .before .before .args in
-    sym (hex-line-is (a .key .now) (a .n) (a .text .now) (a .at) _ (sym (c .before .before .before .before .before .before .before .starts-with .ensures) ∙ c .before .before .before .before .before .before .if3 .taken) (omega arith) (sym (c .before .before .before .before .before .hex-at .ensures) ∙ c .before .before .before .v .given .1) (eq-eqb _ _ (c .if4 .taken)))
+    sym (hex-line-is (a .table .now) (a .key .now) (a .n) (a .text .now) (a .at) _ (sym (c .before .before .before .before .before .before .before .starts-with .ensures) ∙ c .before .before .before .before .before .before .if3 .taken) (omega arith) (sym (c .before .before .before .before .before .hex-at .ensures) ∙ c .before .before .before .v .given .1) (eq-eqb _ _ (c .if4 .taken)))
 
 returns-5 : tie.Need-returns-5
 returns-5 c =
     let a = c .before .before .before .before .before .before .before .before .before .before .before .before .args in
-    sym (hex-line-longer (a .key .now) (a .n) (a .text .now) (a .at) _ (sym (c .before .before .before .before .before .before .before .starts-with .ensures) ∙ c .before .before .before .before .before .before .if3 .taken) (omega arith) (sym (c .before .before .before .before .before .hex-at .ensures) ∙ c .before .before .before .v .given .1) (ne-eqb _ _ (c .if4 .left)))
+    sym (hex-line-longer (a .table .now) (a .key .now) (a .n) (a .text .now) (a .at) _ (sym (c .before .before .before .before .before .before .before .starts-with .ensures) ∙ c .before .before .before .before .before .before .if3 .taken) (omega arith) (sym (c .before .before .before .before .before .hex-at .ensures) ∙ c .before .before .before .v .given .1) (ne-eqb _ _ (c .if4 .left)))
 
 returns-6 : tie.Need-returns-6
 returns-6 c =
     let a = c .before .before .before .before .before .before .args in
-    sym (line-missing (a .key .now) (hex (a .n)) (a .text .now) (a .at) (sym (c .before .starts-with .ensures) ∙ c .if3 .left))
+    sym (line-missing (a .key .now) (readHexBy (a .table .now) (a .n) 0) (a .text .now) (a .at) (sym (c .before .starts-with .ensures) ∙ c .if3 .left))
 
 pub hex-line-spec : {M : Type 1} → statement M
 hex-line-spec =
@@ -84,7 +84,7 @@ hex-line-spec =
     enum-told
     returns-3
     shared-slice-read-if4
-    add-t19
+    add-t20
     returns-4
     returns-5
     returns-6)

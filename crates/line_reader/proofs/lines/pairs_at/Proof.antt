@@ -7,17 +7,17 @@ use native.Mathlib.Omega.{arith}
 use borrow.Author.Needs.{needs}
 use lib.ListN.{length, take, drop, replicate, length-set}
 use lib.Seq.{take-suc-set}
-use Rattle.format.specs.Step.{readPairs}
+use Rattle.hex_tables.specs.Tables.{readPairsBy}
 use Rattle.line_reader.proofs.Pairs.{pairs-newline, pairs-full, pairs-no-digit, pairs-one, pairs-two, pairs-end, zeros-left, attribute-found}
 use borrow.Author.Tests.{le-ltb, lt-ltb, ne-eqb}
 use Rattle.line_reader.proofs.lines.pairs_at.Statement.{statement}
 use Rattle.line_reader.proofs.lines.pairs_at.Tie as tie
 
 abbrev Inv-loop : tie.InvT-loop
-Inv-loop text start bytes₀ i₀ n₀ bytes i n = (readPairs 24 [] (drop start text) ≡ readPairs (24 - n) (take n bytes) (drop i text)) × (n ≤ 24) × (length bytes ≡ 24) × (drop n bytes ≡ replicate (24 - n) 0)
+Inv-loop text start table bytes₀ i₀ n₀ bytes i n = (readPairsBy table 24 [] (drop start text) ≡ readPairsBy table (24 - n) (take n bytes) (drop i text)) × (n ≤ 24) × (length bytes ≡ 24) × (drop n bytes ≡ replicate (24 - n) 0)
 
 abbrev μ-loop : tie.MeasureT-loop
-μ-loop text start bytes₀ i₀ n₀ bytes i n = length text - i
+μ-loop text start table bytes₀ i₀ n₀ bytes i n = length text - i
 
 loop-holds : tie.Need-loop-holds Inv-loop μ-loop
 loop-holds c = (refl, search needs, refl, refl)
@@ -25,16 +25,17 @@ loop-holds c = (refl, search needs, refl, refl)
 shared-slice-read-b : tie.Need-shared-slice-read-b Inv-loop μ-loop
 shared-slice-read-b c = search needs
 
-add-t14 : tie.Need-add-t14 Inv-loop μ-loop
-add-t14 c = search needs
+add-t15 : tie.Need-add-t15 Inv-loop μ-loop
+add-t15 c = search needs
 
 returns : tie.Need-returns Inv-loop μ-loop
 returns c =
     let l = c .before .before .before .loop in
     let t = c .before .before .before .before .before .args .text .now in
+    let table = c .before .before .before .before .before .args .table .now in
     let h = c .before .before .loop-test .taken in
     let bs = take (l .n) (l .bytes) in
-    rw (l .inv .0, pairs-newline (l .i) t h (24 - l .n) bs (c .if1 .taken))
+    rw (l .inv .0, pairs-newline table (l .i) t h (24 - l .n) bs (c .if1 .taken))
     (attribute-found t (l .bytes) (l .n) (l .i + 1) (omega arith) (l .inv .1) (l .inv .2) (l .inv .3))
 
 no-bytes-requires : tie.Need-no-bytes-requires Inv-loop μ-loop
@@ -44,9 +45,10 @@ returns-2 : tie.Need-returns-2 Inv-loop μ-loop
 returns-2 c =
     let l = c .before .before .before .before .before .loop in
     let t = c .before .before .before .before .before .before .before .args .text .now in
+    let table = c .before .before .before .before .before .before .before .args .table .now in
     let h = c .before .before .before .before .loop-test .taken in
     let bs = take (l .n) (l .bytes) in
-    rw (l .inv .0, pairs-full (l .i) t h (24 - l .n) bs (omega (arith, c .before .if2 .taken)) (ne-eqb _ _ (c .before .before .if1 .left)))
+    rw (l .inv .0, pairs-full table (l .i) t h (24 - l .n) bs (omega (arith, c .before .if2 .taken)) (ne-eqb _ _ (c .before .before .if1 .left)))
     (c .no-bytes .ensures)
 
 hex-digit-requires : tie.Need-hex-digit-requires Inv-loop μ-loop
@@ -59,9 +61,10 @@ returns-3 : tie.Need-returns-3 Inv-loop μ-loop
 returns-3 c =
     let l = c .before .before .before .before .before .before .before .loop in
     let t = c .before .before .before .before .before .before .before .before .before .args .text .now in
+    let table = c .before .before .before .before .before .before .before .before .before .args .table .now in
     let h = c .before .before .before .before .before .before .loop-test .taken in
     let bs = take (l .n) (l .bytes) in
-    rw (l .inv .0, pairs-no-digit (l .i) t h (24 - l .n) (24 - (l .n + 1)) bs (omega arith) (ne-eqb _ _ (c .before .before .before .before .if1 .left)) (rw (← (c .before .before .hex-digit .ensures)) (le-ltb _ _ (c .before .if3 .taken))))
+    rw (l .inv .0, pairs-no-digit table (l .i) t h (24 - l .n) (24 - (l .n + 1)) bs (omega arith) (ne-eqb _ _ (c .before .before .before .before .if1 .left)) (rw (← (c .before .before .hex-digit .ensures)) (le-ltb _ _ (c .before .if3 .taken))))
     (c .no-bytes2 .ensures)
 
 add-j : tie.Need-add-j Inv-loop μ-loop
@@ -74,9 +77,10 @@ returns-4 : tie.Need-returns-4 Inv-loop μ-loop
 returns-4 c =
     let l = c .before .before .before .before .before .before .before .before .loop in
     let t = c .before .before .before .before .before .before .before .before .before .before .args .text .now in
+    let table = c .before .before .before .before .before .before .before .before .before .before .args .table .now in
     let h = c .before .before .before .before .before .before .before .loop-test .taken in
     let bs = take (l .n) (l .bytes) in
-    rw (l .inv .0, pairs-one (l .i) t h (24 - l .n) (24 - (l .n + 1)) bs (omega arith) (c .before .if4 .taken) (ne-eqb _ _ (c .before .before .before .before .before .if1 .left)))
+    rw (l .inv .0, pairs-one table (l .i) t h (24 - l .n) (24 - (l .n + 1)) bs (omega arith) (c .before .if4 .taken) (ne-eqb _ _ (c .before .before .before .before .before .if1 .left)))
     (c .no-bytes3 .ensures)
 
 shared-slice-read-hex-digit : tie.Need-shared-slice-read-hex-digit Inv-loop μ-loop
@@ -92,11 +96,12 @@ returns-5 : tie.Need-returns-5 Inv-loop μ-loop
 returns-5 c =
     let l = c .before .before .before .before .before .before .before .before .before .before .before .loop in
     let t = c .before .before .before .before .before .before .before .before .before .before .before .before .before .args .text .now in
+    let table = c .before .before .before .before .before .before .before .before .before .before .before .before .before .args .table .now in
     let h = c .before .before .before .before .before .before .before .before .before .before .loop-test .taken in
     let bs = take (l .n) (l .bytes) in
     rw (
       l .inv .0,
-      pairs-two (l .i) t h (24 - l .n) (24 - (l .n + 1)) (l .i + 1) bs (omega arith) refl (c .before .before .before .before .if4 .left) (ne-eqb _ _ (c .before .before .before .before .before .before .before .before .if1 .left)),
+      pairs-two table (l .i) t h (24 - l .n) (24 - (l .n + 1)) (l .i + 1) bs (omega arith) refl (c .before .before .before .before .if4 .left) (ne-eqb _ _ (c .before .before .before .before .before .before .before .before .if1 .left)),
       ← (c .before .before .before .before .before .before .hex-digit .ensures),
       ← (c .before .before .hex-digit2 .ensures),
       lt-ltb _ _ (c .before .before .before .before .before .if3 .left),
@@ -129,11 +134,12 @@ loop-again : tie.Need-loop-again Inv-loop μ-loop
 loop-again c =
     let l = c .before .before .before .before .before .before .before .before .before .before .loop in
     let t = c .before .before .before .before .before .before .before .before .before .before .before .before .args .text .now in
+    let table = c .before .before .before .before .before .before .before .before .before .before .before .before .args .table .now in
     let h = c .before .before .before .before .before .before .before .before .before .loop-test .taken in
     let bs = take (l .n) (l .bytes) in (
       rw (
         l .inv .0,
-        pairs-two (l .i) t h (24 - l .n) (24 - (l .n + 1)) (l .i + 1) bs (omega arith) refl (c .before .before .before .if4 .left) (ne-eqb _ _ (c .before .before .before .before .before .before .before .if1 .left)),
+        pairs-two table (l .i) t h (24 - l .n) (24 - (l .n + 1)) (l .i + 1) bs (omega arith) refl (c .before .before .before .if4 .left) (ne-eqb _ _ (c .before .before .before .before .before .before .before .if1 .left)),
         ← (c .before .before .before .before .before .hex-digit .ensures),
         ← (c .before .hex-digit2 .ensures),
         lt-ltb _ _ (c .before .before .before .before .if3 .left),
@@ -151,7 +157,7 @@ no-bytes-requires-5 c κs = tt
 returns-6 : tie.Need-returns-6 Inv-loop μ-loop
 returns-6 c =
     let l = c .before .before .loop in
-    rw (l .inv .0, pairs-end (l .i) (c .before .before .before .before .args .text .now) (c .before .loop-test .left) (24 - l .n) (take (l .n) (l .bytes)))
+    rw (l .inv .0, pairs-end (c .before .before .before .before .args .table .now) (l .i) (c .before .before .before .before .args .text .now) (c .before .loop-test .left) (24 - l .n) (take (l .n) (l .bytes)))
     (c .no-bytes5 .ensures)
 
 pub pairs-at-spec : {M : Type 1} → statement M
@@ -162,7 +168,7 @@ pairs-at-spec =
     μ-loop
     loop-holds
     shared-slice-read-b
-    add-t14
+    add-t15
     returns
     no-bytes-requires
     returns-2

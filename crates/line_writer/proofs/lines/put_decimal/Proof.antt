@@ -23,8 +23,8 @@ loop-holds c = (refl, c .before .pre .0, search needs, refl)
 sub-m : tie.Need-sub-m Inv-loop μ-loop
 sub-m c = let l = c .before .loop in omega (arith, l .inv .1, length-some (l .w))
 
-digit-of-requires : tie.Need-digit-of-requires Inv-loop μ-loop
-digit-of-requires c κs = search needs
+decimal-digit-requires : tie.Need-decimal-digit-requires Inv-loop μ-loop
+decimal-digit-requires c κs = search needs
 
 add-buf : tie.Need-add-buf Inv-loop μ-loop
 add-buf c = search needs
@@ -36,10 +36,10 @@ loop-less : tie.Need-loop-less Inv-loop μ-loop
 loop-less c = search needs
 
 loop-again : tie.Need-loop-again Inv-loop μ-loop
-loop-again c = let l = c .before .before .loop in let h = c .before .loop-test .taken in (l .inv .0 ∙ put-decimal-digit (l .w) (l .m - 1) (l .buf) _ h (omega (arith, l .inv .1, length-some (l .w))) ∙ rw (c .digit-of .ensures), omega (arith, l .inv .1, length-more (l .w) h), omega (arith, l .inv .2), simp length-set (l .inv .3))
+loop-again c = let l = c .before .before .loop in let h = c .before .loop-test .taken in (l .inv .0 ∙ put-decimal-digit (l .w) (l .m - 1) (l .buf) _ h (omega (arith, l .inv .1, length-some (l .w))) ∙ rw (c .decimal-digit .ensures), omega (arith, l .inv .1, length-more (l .w) h), omega (arith, l .inv .2), simp length-set (l .inv .3))
 
-digit-of-requires-2 : tie.Need-digit-of-requires-2 Inv-loop μ-loop
-digit-of-requires-2 c κs = search needs
+decimal-digit-requires-2 : tie.Need-decimal-digit-requires-2 Inv-loop μ-loop
+decimal-digit-requires-2 c κs = search needs
 
 slice-write-buf-2 : tie.Need-slice-write-buf-2 Inv-loop μ-loop
 slice-write-buf-2 c = let l = c .before .before .loop in let a = c .before .before .before .before in omega (arith, a .pre .0, a .pre .1, l .inv .3, length-some (a .args .v))
@@ -51,7 +51,7 @@ same-length : tie.Need-same-length Inv-loop μ-loop
 same-length c = search needs
 
 returns : tie.Need-returns Inv-loop μ-loop
-returns c = let l = c .before .before .loop in (refl, sym (l .inv .0 ∙ put-first-digit (l .w) _ _ (c .before .loop-test .left) ∙ rw (c .digit-of2 .ensures)))
+returns c = let l = c .before .before .loop in (refl, sym (l .inv .0 ∙ put-first-digit (l .w) _ _ (c .before .loop-test .left) ∙ rw (c .decimal-digit2 .ensures)))
 
 pub put-decimal-spec : {M : Type 1} → statement M
 put-decimal-spec =
@@ -61,12 +61,12 @@ put-decimal-spec =
     μ-loop
     loop-holds
     sub-m
-    digit-of-requires
+    decimal-digit-requires
     add-buf
     slice-write-buf
     loop-less
     loop-again
-    digit-of-requires-2
+    decimal-digit-requires-2
     slice-write-buf-2
     add-result
     same-length

@@ -5,16 +5,16 @@ use native.Mathlib.Omega.{arith}
 use borrow.Author.Needs.{needs}
 use lib.ListN.{length, length-set}
 use lib.Seq.{sets}
-use Rattle.format.specs.Line.{hexText}
+use Rattle.hex_tables.specs.Tables.{hexTextBy}
 use Rattle.line_writer.proofs.LineLaws.{put-hex-digit, put-no-hex}
 use Rattle.line_writer.proofs.lines.put_hex.Statement.{statement}
 use Rattle.line_writer.proofs.lines.put_hex.Tie as tie
 
 abbrev Inv-loop : tie.InvT-loop
-Inv-loop buf₀ at n v m₀ w₀ buf m w = (sets buf₀ at (hexText n v) ≡ sets buf at (hexText m w)) × (m ≤ n) × (length buf ≡ length buf₀)
+Inv-loop buf₀ at n v table m₀ w₀ buf m w = (sets buf₀ at (hexTextBy table n v) ≡ sets buf at (hexTextBy table m w)) × (m ≤ n) × (length buf ≡ length buf₀)
 
 abbrev μ-loop : tie.MeasureT-loop
-μ-loop buf₀ at n v m₀ w₀ buf m w = m
+μ-loop buf₀ at n v table m₀ w₀ buf m w = m
 
 loop-holds : tie.Need-loop-holds Inv-loop μ-loop
 loop-holds c = (refl, search needs, refl)
@@ -22,8 +22,8 @@ loop-holds c = (refl, search needs, refl)
 sub-m : tie.Need-sub-m Inv-loop μ-loop
 sub-m c = search needs
 
-digit-of-requires : tie.Need-digit-of-requires Inv-loop μ-loop
-digit-of-requires c κs = search needs
+hex-digit-requires : tie.Need-hex-digit-requires Inv-loop μ-loop
+hex-digit-requires c κs = search needs
 
 add-buf : tie.Need-add-buf Inv-loop μ-loop
 add-buf c = search needs
@@ -35,7 +35,7 @@ loop-less : tie.Need-loop-less Inv-loop μ-loop
 loop-less c = search needs
 
 loop-again : tie.Need-loop-again Inv-loop μ-loop
-loop-again c = let l = c .before .before .loop in (l .inv .0 ∙ put-hex-digit (l .m) (l .m - 1) (l .w) (l .buf) _ (omega arith) ∙ rw (c .digit-of .ensures), search needs, simp length-set (l .inv .2))
+loop-again c = let l = c .before .before .loop in (l .inv .0 ∙ put-hex-digit _ (l .m) (l .m - 1) (l .w) (l .buf) _ (omega arith) ∙ rw (c .hex-digit .ensures), search needs, simp length-set (l .inv .2))
 
 add-result : tie.Need-add-result Inv-loop μ-loop
 add-result c = search needs
@@ -44,7 +44,7 @@ same-length : tie.Need-same-length Inv-loop μ-loop
 same-length c = c .before .loop .inv .2
 
 returns : tie.Need-returns Inv-loop μ-loop
-returns c = (refl, sym (c .before .loop .inv .0 ∙ put-no-hex (c .before .loop .m) _ _ _ (omega arith)))
+returns c = (refl, sym (c .before .loop .inv .0 ∙ put-no-hex _ (c .before .loop .m) _ _ _ (omega arith)))
 
 pub put-hex-spec : {M : Type 1} → statement M
 put-hex-spec =
@@ -54,7 +54,7 @@ put-hex-spec =
     μ-loop
     loop-holds
     sub-m
-    digit-of-requires
+    hex-digit-requires
     add-buf
     slice-write-buf
     loop-less

@@ -2,8 +2,8 @@
 use mathlib.Core.Path.{_∙_}
 use native.Mathlib.Omega.{arith}
 use lib.ListN.{length-set}
-use Rattle.format.specs.Line.{hexText}
-use Rattle.format.proofs.Lengths.{length-hex}
+use Rattle.hex_tables.specs.Tables.{hexTextBy}
+use Rattle.hex_tables.proofs.Lengths.{length-hex-by}
 use Rattle.line_writer.proofs.LineLaws.{keyed-refused, keyed-written}
 use borrow.Author.Needs.{needs}
 use Rattle.line_writer.proofs.lines.write_hex.Statement.{statement}
@@ -18,14 +18,14 @@ add-size-2 c = search needs
 returns : tie.Need-returns
 returns c =
     let a = c .before .before .before .args in
-    let value = hexText (a .n) (a .v) in
-    keyed-refused (a .key .now) value (a .buf .now) (a .at) (omega (arith, length-hex (a .n) (a .v)))
+    let value = hexTextBy (a .table .now) (a .n) (a .v) in
+    keyed-refused (a .key .now) value (a .buf .now) (a .at) (omega (arith, length-hex-by (a .table .now) (a .n) (a .v)))
 
 returns-2 : tie.Need-returns-2
 returns-2 c =
     let a = c .before .before .before .before .args in
-    let value = hexText (a .n) (a .v) in
-    keyed-refused (a .key .now) value (a .buf .now) (a .at) (omega (arith, length-hex (a .n) (a .v)))
+    let value = hexTextBy (a .table .now) (a .n) (a .v) in
+    keyed-refused (a .key .now) value (a .buf .now) (a .at) (omega (arith, length-hex-by (a .table .now) (a .n) (a .v)))
 
 put-bytes-requires : tie.Need-put-bytes-requires
 put-bytes-requires c κs = search needs
@@ -45,10 +45,10 @@ same-length c = simp length-set (c .before .before .put-hex .kept .0 ∙ c .befo
 returns-3 : tie.Need-returns-3
 returns-3 c =
     let a = c .before .before .before .before .before .before .before .before .before .before .before .before .args in
-    let value = hexText (a .n) (a .v) in
+    let value = hexTextBy (a .table .now) (a .n) (a .v) in
     let pb = c .before .before .before .before .before .before .put-bytes .ensures in
     let pv = c .before .before .put-hex .ensures in
-    rw (pv .1, pb .1) (keyed-written (a .key .now) value (a .buf .now) (a .at) _ _ (pb .0) (omega (arith, pv .0, length-hex (a .n) (a .v))) (omega (arith, length-hex (a .n) (a .v))))
+    rw (pv .1, pb .1) (keyed-written (a .key .now) value (a .buf .now) (a .at) _ _ (pb .0) (omega (arith, pv .0, length-hex-by (a .table .now) (a .n) (a .v))) (omega (arith, length-hex-by (a .table .now) (a .n) (a .v))))
 
 pub write-hex-spec : {M : Type 1} → statement M
 write-hex-spec =

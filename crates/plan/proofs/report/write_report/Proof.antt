@@ -24,8 +24,8 @@ write-results-requires c κs = search needs
 write-at-requires : tie.Need-write-at-requires
 write-at-requires c κs = tt
 
-cast-t16 : tie.Need-cast-t16
-cast-t16 c = omega (arith, c .before .before .before .before .before .before .before .before .before .before .results-length .ensures .1, c .before .before .before .before .before .before .before .before .before .sheet-length .ensures .1)
+cast-t17 : tie.Need-cast-t17
+cast-t17 c = omega (arith, c .before .before .before .before .before .before .before .before .before .before .results-length .ensures .1, c .before .before .before .before .before .before .before .before .before .sheet-length .ensures .1)
 
 same-length : tie.Need-same-length
 same-length c = c .before .before .write-at .kept .0 ∙ c .before .before .before .before .before .before .write-results .kept .0
@@ -36,7 +36,7 @@ returns c =
     let a = s .args in
     let answers = answersText (take (a .count) (a .codes .now)) (take (a .count) (a .values .now)) in
     let results = c .before .before .before .before .before .before .write-results .ensures in
-    report-done answers (sheetText (a .last)) (a .buf .now) _ _ _ _ (omega (arith, c .before .before .before .before .before .before .before .before .before .before .results-length .ensures .0, c .before .before .before .before .before .before .before .before .before .sheet-length .ensures .0)) (c .before .before .before .before .before .before .before .before .if1 .taken) (results .0) (results .1) (c .before .before .write-at .ensures .1 ∙ sheet-put (a .last) _ _ (s .pre .3))
+    report-done answers (sheetText (a .last)) (a .buf .now) _ _ _ _ (omega (arith, c .before .before .before .before .before .before .before .before .before .before .results-length .ensures .0, c .before .before .before .before .before .before .before .before .before .sheet-length .ensures .0)) (c .before .before .before .before .before .before .before .before .if1 .taken) (results .0) (results .1) (c .before .before .write-at .ensures .1 ∙ sheet-put _ (a .last) _ _ (s .pre .3) (s .pre .4))
 
 returns-2 : tie.Need-returns-2
 returns-2 c =
@@ -53,7 +53,7 @@ write-report-spec =
     add-size
     write-results-requires
     write-at-requires
-    cast-t16
+    cast-t17
     same-length
     returns
     returns-2)

@@ -9,17 +9,16 @@ use lib.Seq.{sets}
 use Rattle.format.specs.Line.{linesText}
 use Rattle.format.specs.Report.{resultKinds}
 use Rattle.line_writer.specs.Inside.{Put}
-use Rattle.line_writer.proofs.LineLaws.{lines-put}
 use Rattle.plan.specs.Inside.{answersText}
-use Rattle.plan.proofs.ReportLaws.{lines-step, lines-end, put-lines}
+use Rattle.plan.proofs.ReportLaws.{lines-step, lines-end, put-lines, result-put}
 use Rattle.plan.proofs.report.write_results.Statement.{statement}
 use Rattle.plan.proofs.report.write_results.Tie as tie
 
 abbrev Inv-loop : tie.InvT-loop
-Inv-loop buf₀ codes values count at₀ j₀ buf at j = (sets buf₀ 0 (answersText (take count codes) (take count values)) ≡ sets buf at (answersText (drop j (take count codes)) (drop j (take count values)))) × (length (answersText (take count codes) (take count values)) ≡ at + length (answersText (drop j (take count codes)) (drop j (take count values)))) × (j ≤ count) × (length buf ≡ length buf₀)
+Inv-loop buf₀ codes values count table at₀ j₀ buf at j = (sets buf₀ 0 (answersText (take count codes) (take count values)) ≡ sets buf at (answersText (drop j (take count codes)) (drop j (take count values)))) × (length (answersText (take count codes) (take count values)) ≡ at + length (answersText (drop j (take count codes)) (drop j (take count values)))) × (j ≤ count) × (length buf ≡ length buf₀)
 
 abbrev μ-loop : tie.MeasureT-loop
-μ-loop buf₀ codes values count at₀ j₀ buf at j = count - j
+μ-loop buf₀ codes values count table at₀ j₀ buf at j = count - j
 
 loop-holds : tie.Need-loop-holds Inv-loop μ-loop
 loop-holds c = (refl, omega arith, search needs, refl)
@@ -56,7 +55,7 @@ loop-again c =
     let q : a .count ≤ length (a .values .now) = omega (arith, s .pre .1, s .pre .2) in
     let vs = getD (a .codes .now) (l .j) 0 ∷ getD (a .values .now) (l .j) 0 ∷ [] in
     let one = ap length (lines-step (a .codes .now) (a .values .now) (a .count) p q (l .j) h) ∙ length-append (linesText resultKinds vs) _ in
-    let put = lines-put resultKinds vs (l .buf) (l .at) (omega (arith, s .pre .3, l .inv .1, l .inv .3, one)) in
+    let put = result-put (a .table .now) vs (l .buf) (l .at) (s .pre .3) (omega (arith, s .pre .4, l .inv .1, l .inv .3, one)) in
     let e = rw (c .before .before .before .before .before .wide .ensures .0) at (w .write-result .ensures) in
     let at = e .0 ∙ ap (λ (x : Put). x .at) put in
     let buf = e .1 ∙ ap (λ (x : Put). x .buffer) put in (

@@ -36,7 +36,7 @@ write-report-requires c κs =
     let s = c .before .before .before .before .before .before .before .before .before .before .before .before in
     let ran = sym (run .ensures .0) ∙ ap (λ (x : StepsRun). seenSteps x (run .last .1 .1 .1 .0) (run .last .1 .1 .1 .1 .0)) (c .before .before .before .before .before .count .given .1) in
     let n = rw (c .before .before .before .before .before .count .given .1) at (run .ensures .1) in
-    (run .ensures .2, run .ensures .3, n, last-valid (s .args .plan .now) _ _ _ (s .pre .1 ∙ c .before .before .before .if1 .taken) ran)
+    (run .ensures .2, run .ensures .3, n, s .pre .3, last-valid (s .args .plan .now) _ _ _ (s .pre .1 ∙ c .before .before .before .if1 .taken) ran)
 
 same-length : tie.Need-same-length
 same-length c = search needs

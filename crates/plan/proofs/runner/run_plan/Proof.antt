@@ -1,10 +1,17 @@
 -- `plan::runner::run_plan` meets its contract. Assumes nothing.
-use mathlib.Core.Path.{refl, sym, _∙_}
+use mathlib.Core.Path.{refl, _∙_}
+use Rattle.sheet_reader.proofs.Format.{front-is}
 use Rattle.sheet_reader.proofs.Whole.{front-told, front-told-invalid, front-fault}
 use Rattle.plan.proofs.ReportLaws.{front-at-fault}
 use borrow.Author.Needs.{needs}
 use Rattle.plan.proofs.runner.run_plan.Statement.{statement}
 use Rattle.plan.proofs.runner.run_plan.Tie as tie
+
+reading-table-requires : tie.Need-reading-table-requires
+reading-table-requires c κs = tt
+
+writing-table-requires : tie.Need-writing-table-requires
+writing-table-requires c κs = tt
 
 read-front-requires : tie.Need-read-front-requires
 read-front-requires c κs = search needs
@@ -19,17 +26,27 @@ enum-known-start : tie.Need-enum-known-start
 enum-known-start c = search needs
 
 run-from-requires : tie.Need-run-from-requires
-run-from-requires c κs = let t = front-told-invalid _ _ _ (sym (c .before .before .before .before .read-front .ensures) ∙ c .before .before .start .given .1) in (t .is, t .validity)
+run-from-requires c κs =
+    let front = c .before .before .before .before .before .before in
+    let reading = front .before .before .before .reading-table .ensures in
+    let t = front-told-invalid _ _ _ (front-is _ _ _ reading (front .read-front .ensures) ∙ c .before .before .before .before .start .given .1) in
+    (t .is, t .validity, reading, front .before .before .writing-table .ensures)
 
 enum-known-start-2 : tie.Need-enum-known-start-2
 enum-known-start-2 c = search needs
 
 run-from-requires-2 : tie.Need-run-from-requires-2
-run-from-requires-2 c κs = let t = front-told _ _ _ (sym (c .before .before .before .before .read-front .ensures) ∙ c .before .before .start2 .given .1) in (t .is, t .validity)
+run-from-requires-2 c κs =
+    let front = c .before .before .before .before .before .before in
+    let reading = front .before .before .before .reading-table .ensures in
+    let t = front-told _ _ _ (front-is _ _ _ reading (front .read-front .ensures) ∙ c .before .before .before .before .start2 .given .1) in
+    (t .is, t .validity, reading, front .before .before .writing-table .ensures)
 
 returns : tie.Need-returns
 returns c =
-    let t = front-fault _ _ (sym (c .before .before .before .before .read-front .ensures) ∙ c .before .before .line .given .1) in
+    let front = c .before .before .before .before in
+    let reading = front .before .before .before .reading-table .ensures in
+    let t = front-fault _ _ (front-is _ _ _ reading (front .read-front .ensures) ∙ c .before .before .line .given .1) in
     rw (front-at-fault _ _ t) (c .refused .ensures, refl)
 
 same-length : tie.Need-same-length
@@ -48,6 +65,8 @@ pub run-plan-spec : {M : Type 1} → statement M
 run-plan-spec =
     tie.close
     (tie.spec
+    reading-table-requires
+    writing-table-requires
     read-front-requires
     enum-known-line
     refused-requires

@@ -13,22 +13,22 @@ use Rattle.plan.proofs.runner.run_steps.Statement.{statement}
 use Rattle.plan.proofs.runner.run_steps.Tie as tie
 
 abbrev Inv-loop : tie.InvT-loop
-Inv-loop text first codes₀ values₀ held₀ at₀ count₀ codes values held at count = (ranSteps 256 held₀ (drop first text) ≡ grown (take count codes) (take count values) (ranSteps (256 - count) held (drop at text))) × (count ≤ 256) × (length codes ≡ 256) × (length values ≡ 256)
+Inv-loop text first codes₀ values₀ table held₀ at₀ count₀ codes values held at count = (ranSteps 256 held₀ (drop first text) ≡ grown (take count codes) (take count values) (ranSteps (256 - count) held (drop at text))) × (count ≤ 256) × (length codes ≡ 256) × (length values ≡ 256)
 
 abbrev μ-loop : tie.MeasureT-loop
-μ-loop text first codes₀ values₀ held₀ at₀ count₀ codes values held at count = 256 - count
+μ-loop text first codes₀ values₀ table held₀ at₀ count₀ codes values held at count = 256 - count
 
 loop-holds : tie.Need-loop-holds Inv-loop μ-loop
 loop-holds c = (grown-none _, search needs, c .before .pre .0, c .before .pre .1)
 
-cast-t14 : tie.Need-cast-t14 Inv-loop μ-loop
-cast-t14 c = search needs
+cast-t15 : tie.Need-cast-t15 Inv-loop μ-loop
+cast-t15 c = search needs
 
-mul-t15 : tie.Need-mul-t15 Inv-loop μ-loop
-mul-t15 c = search needs
+mul-t16 : tie.Need-mul-t16 Inv-loop μ-loop
+mul-t16 c = search needs
 
-add-t16 : tie.Need-add-t16 Inv-loop μ-loop
-add-t16 c = search needs
+add-t17 : tie.Need-add-t17 Inv-loop μ-loop
+add-t17 c = search needs
 
 returns : tie.Need-returns Inv-loop μ-loop
 returns c =
@@ -42,19 +42,19 @@ returns c =
     )
 
 run-step-requires : tie.Need-run-step-requires Inv-loop μ-loop
-run-step-requires c κs = tt
+run-step-requires c κs = search needs
 
 enum-known-line : tie.Need-enum-known-line Inv-loop μ-loop
 enum-known-line c = search needs
 
-cast-t18 : tie.Need-cast-t18 Inv-loop μ-loop
-cast-t18 c = search needs
+cast-t19 : tie.Need-cast-t19 Inv-loop μ-loop
+cast-t19 c = search needs
 
-mul-t19 : tie.Need-mul-t19 Inv-loop μ-loop
-mul-t19 c = search needs
+mul-t20 : tie.Need-mul-t20 Inv-loop μ-loop
+mul-t20 c = search needs
 
-add-t20 : tie.Need-add-t20 Inv-loop μ-loop
-add-t20 c = let line = rw (c .before .line .given .1) at (c .before .before .before .run-step .ensures .1) in omega (arith, line)
+add-t21 : tie.Need-add-t21 Inv-loop μ-loop
+add-t21 c = let line = rw (c .before .line .given .1) at (c .before .before .before .run-step .ensures .1) in omega (arith, line)
 
 returns-2 : tie.Need-returns-2 Inv-loop μ-loop
 returns-2 c =
@@ -114,15 +114,15 @@ run-steps-spec =
     Inv-loop
     μ-loop
     loop-holds
-    cast-t14
-    mul-t15
-    add-t16
+    cast-t15
+    mul-t16
+    add-t17
     returns
     run-step-requires
     enum-known-line
-    cast-t18
-    mul-t19
-    add-t20
+    cast-t19
+    mul-t20
+    add-t21
     returns-2
     enum-known-given
     element-write-codes

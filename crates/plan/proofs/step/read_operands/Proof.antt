@@ -1,6 +1,6 @@
 -- `plan::step::read_operands` meets its contract. Assumes nothing.
 use Rattle.format.specs.Step.{stepKinds}
-use Rattle.line_reader.specs.Inside.{linesAt}
+use Rattle.line_reader.specs.Positions.{linesAt}
 use borrow.Author.Needs.{needs}
 use Rattle.plan.proofs.step.read_operands.Statement.{statement}
 use Rattle.plan.proofs.step.read_operands.Tie as tie

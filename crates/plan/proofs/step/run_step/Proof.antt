@@ -19,7 +19,7 @@ read-attribute-requires c κs = tt
 
 returns : tie.Need-returns
 returns c =
-    let s = step-fault _ _ _ _ _ _ (c .before .before .before .before .read-operands .ensures) (c .before .before .read-attribute .ensures) (c .if1 .taken) in
+    let s = step-fault _ _ _ _ _ _ _ (c .before .before .before .before .before .before .pre) (c .before .before .before .before .read-operands .ensures) (c .before .before .read-attribute .ensures) (c .if1 .taken) in
     (sym (s .0), s .1)
 
 sub-perform : tie.Need-sub-perform
@@ -30,7 +30,7 @@ part-perform-start c = search needs
 
 part-perform-end : tie.Need-part-perform-end
 part-perform-end c =
-    let s = step-done (λ (x : Step). x) _ _ _ _ _ (c .before .before .before .before .before .before .read-operands .ensures) (c .before .before .before .before .read-attribute .ensures) (c .before .before .if1 .left) in
+    let s = step-done (λ (x : Step). x) _ _ _ _ _ _ (c .before .before .before .before .before .before .before .before .pre) (c .before .before .before .before .before .before .read-operands .ensures) (c .before .before .before .before .read-attribute .ensures) (c .before .before .if1 .left) in
     omega (arith, s .1, s .2)
 
 perform-requires : tie.Need-perform-requires
@@ -48,7 +48,7 @@ after-requires c κs = tt
 returns-2 : tie.Need-returns-2
 unfolding result
 returns-2 c =
-    let s = step-done (result (c .before .before .before .before .before .before .before .before .before .before .before .before .before .args .held)) _ _ _ _ _ (c .before .before .before .before .before .before .before .before .before .before .before .read-operands .ensures) (c .before .before .before .before .before .before .before .before .before .read-attribute .ensures) (c .before .before .before .before .before .before .before .if1 .left) in
+    let s = step-done (result (c .before .before .before .before .before .before .before .before .before .before .before .before .before .args .held)) _ _ _ _ _ _ (c .before .before .before .before .before .before .before .before .before .before .before .before .before .pre) (c .before .before .before .before .before .before .before .before .before .before .before .read-operands .ensures) (c .before .before .before .before .before .before .before .before .before .read-attribute .ensures) (c .before .before .before .before .before .before .before .if1 .left) in
     (rw (s .0, c .after .ensures, c .before .value .ensures, c .before .before .code .ensures, c .before .before .before .perform .ensures, sub-zero), search needs)
 
 pub run-step-spec : {M : Type 1} → statement M
