@@ -1,7 +1,7 @@
 // The sheet reader: a text that is to be a sheet, or that begins with one. IDs, sets and flags are each read by a reader of their own.
 //
-// The sheet itself is defined in the crate `format`; the table that its hex digits are read by is made once and lent. Every function is proved, for every argument: no public one has a `requires`. The crate
-// assumes nothing.
+// The sheet itself is defined in the crate `format`; the table that its hex digits are read by is made once and lent. Every function is proved, for
+// every argument: no public one has a `requires`. The crate assumes nothing.
 ghost use mathlib.Core.Path.{_≡_};
 ghost use Prim.Native.Nat.{ℕ};
 ghost use mathlib.Core.List.{List, [], _∷_};

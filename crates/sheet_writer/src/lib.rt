@@ -1,7 +1,7 @@
 // The sheet writer: the sheet's length first, then its lines, each group by a writer of its own.
 //
-// The sheet itself is defined in the crate `format`; the table that its hex digits are written by is made once and lent. Every function is proved, for every argument: no public one has a `requires`. The crate
-// assumes nothing.
+// The sheet itself is defined in the crate `format`; the table that its hex digits are written by is made once and lent. Every function is proved, for
+// every argument: no public one has a `requires`. The crate assumes nothing.
 ghost use mathlib.Core.Path.{_≡_};
 ghost use mathlib.Core.List.{List, [], _∷_};
 ghost use Prim.Native.Nat.{ℕ, _+_, _≤_};
