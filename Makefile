@@ -1,5 +1,5 @@
 # The commands of README.md.
-.PHONY: test run library compare mutants bench kernel root
+.PHONY: test run library compare mutants bench turns kernel root
 SHELL := /bin/bash
 .SHELLFLAGS := -o pipefail -euc
 
@@ -44,6 +44,11 @@ mutants: library
 # The library's speed beside the second program's.
 bench: library
 	@$(CARGO_RUN) -p bench
+
+# The library of another commit and this one's, timed in turns on equal inputs (docs/BENCHMARKS.md).
+turns:
+	@test -n "$(BEFORE)" || { echo 'make turns BEFORE=COMMIT: times the library of that commit and this one in turns' >&2; exit 2; }
+	@host/bench/turns "$(BEFORE)"
 
 # Plans performed with real system calls, and what the kernel did laid beside the library's prediction.
 kernel: root library

@@ -2,6 +2,9 @@
 
 use std::fmt;
 
+/// The numbers of steps for which there is a batch.
+pub const STEPS: [usize; 5] = [0, 1, 16, 64, 256];
+
 /// A batch has about this many bytes of text, but at least `FEWEST` plans.
 const BATCH_BYTES: usize = 1 << 19;
 

@@ -1,6 +1,7 @@
 //! The times of a batch, as a row of a table.
 
-use crate::batch::{Batch, Kind};
+use measured::batch::{Batch, Kind};
+use measured::times::{quantile, ratios, spread};
 use std::fmt;
 
 /// The nanoseconds a plan of each round, and what a row needs besides.
@@ -38,7 +39,7 @@ impl Figures {
     /// of it have no time.
     fn columns(&self, times: &[f64]) -> String {
         let time = quantile(times, 0.5);
-        let spread = format!("{:.0} [{:.0}, {:.0}]", time, quantile(times, 0.25), quantile(times, 0.75));
+        let spread = spread(times, 0);
         let (step, byte) = match self.kind {
             Kind::Broken => ("".into(), "".into()),
             Kind::WellFormed if self.steps == 0 => ("".into(), format!("{:.2}", time / self.bytes)),
@@ -50,31 +51,9 @@ impl Figures {
 
 impl fmt::Display for Figures {
     fn fmt(&self, f: &mut fmt::Formatter<'_>) -> fmt::Result {
-        // Each round's own ratio, since the machine's clock may change between rounds.
-        let ratios: Vec<f64> =
-            self.library.iter().zip(&self.second).map(|(library, second)| second / library).collect();
         let Figures { kind, steps, plans, bytes, .. } = self;
         writeln!(f, "| {plans} {kind} | {steps} | {bytes:.0} | library | {} | |", self.columns(&self.library))?;
-        let (low, high) = (quantile(&ratios, 0.25), quantile(&ratios, 0.75));
-        let ratio = format!("{:.2} [{low:.2}, {high:.2}]", quantile(&ratios, 0.5));
+        let ratio = spread(&ratios(&self.second, &self.library), 2);
         write!(f, "| | | | second | {} | {ratio} |", self.columns(&self.second))
-    }
-}
-
-/// The value below which the given share of the values lies.
-fn quantile(values: &[f64], share: f64) -> f64 {
-    let mut sorted = values.to_vec();
-    sorted.sort_by(f64::total_cmp);
-    sorted[((sorted.len() - 1) as f64 * share).round() as usize]
-}
-
-#[cfg(test)]
-mod tests {
-    use super::quantile;
-
-    #[test]
-    fn quantiles_of_five_values() {
-        let values = [5.0, 1.0, 4.0, 2.0, 3.0];
-        assert_eq!([0.0, 0.25, 0.5, 0.75, 1.0].map(|share| quantile(&values, share)), [1.0, 2.0, 3.0, 4.0, 5.0]);
     }
 }

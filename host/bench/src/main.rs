@@ -8,18 +8,15 @@
 //! batch, each plan into a buffer of its own that was cleared before, and then compares every answer and every byte of every buffer. Clearing and
 //! comparing are not timed. Rounds of the two programs alternate, so that both see the same phases of the machine's clock.
 
-mod batch;
 mod figures;
 
-use batch::{Batch, Kind};
 use figures::Figures;
+use measured::batch::{Batch, Kind, STEPS};
 use std::process::ExitCode;
 use std::time::Instant;
 
 /// How many rounds are run where none is asked for.
 const ROUNDS: usize = 101;
-
-const STEPS: [usize; 5] = [0, 1, 16, 64, 256];
 
 /// An answer as numbers, so that the two programs' can be compared: code, line of a fault, length of the report.
 type Answer = (u32, u32, usize);
