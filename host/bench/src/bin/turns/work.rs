@@ -116,7 +116,7 @@ fn values_of(sheet: &[u8]) -> [u64; SHEET_VALUES] {
 fn plans(kind: Kind, steps: usize) -> Work {
     let Batch { plans, rooms, .. } = Batch::new(kind, steps);
     Work {
-        name: format!("a {kind} plan of {steps} steps"),
+        name: format!("a {kind} plan of {steps} step{}", if steps == 1 { "" } else { "s" }),
         units: plans.len(),
         output: Output {
             numbers: vec![0; plans.len()],
