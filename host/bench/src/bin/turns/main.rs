@@ -1,12 +1,12 @@
 //! Times two builds of the library on equal inputs, in turns.
 //!
 //! ```text
-//! turns BEFORE AFTER [ROUNDS]
+//! turns BEFORE AFTER [ROUNDS [WORK]]
 //! ```
 //!
 //! BEFORE and AFTER are folders with `libcapi.so` and `libdigits.so`, which host/bench/turns makes. Each row of the table is one piece of work, done by
 //! both builds in every round, one after the other and the other way round in the next; answers and every byte that was written are compared after each
-//! round. Clearing and comparing are not timed.
+//! round. Clearing and comparing are not timed. With WORK only the rows are run that have it in their names.
 
 mod library;
 mod work;
@@ -60,21 +60,24 @@ fn measure(work: &Work, before: &Library, after: &Library, rounds: usize) -> Res
 }
 
 fn run(arguments: &[String]) -> Result<(), String> {
-    let usage = || "usage: turns BEFORE AFTER [ROUNDS]".to_string();
+    let usage = || "usage: turns BEFORE AFTER [ROUNDS [WORK]]".to_string();
     let [before, after, rest @ ..] = arguments else {
         return Err(usage());
     };
-    let rounds = match rest {
-        [] => ROUNDS,
-        [rounds] => rounds.parse().ok().filter(|&rounds| rounds > 0).ok_or_else(usage)?,
+    let (rounds, wanted) = match rest {
+        [] => (ROUNDS, ""),
+        [rounds, wanted @ ..] if wanted.len() < 2 => {
+            let rounds = rounds.parse().ok().filter(|&rounds| rounds > 0).ok_or_else(usage)?;
+            (rounds, wanted.first().map_or("", String::as_str))
+        }
         _ => return Err(usage()),
     };
     let before = Library::open(&PathBuf::from(before))?;
     let after = Library::open(&PathBuf::from(after))?;
     println!("{rounds} rounds; medians, with the first and third quartile of the rounds in brackets\n");
     println!("| work | ns before | ns after | before/after |\n|---|---|---|---|");
-    for work in work::all() {
-        println!("{}", measure(&work, &before, &after, rounds)?);
+    for work in work::all().iter().filter(|work| work.name.contains(wanted)) {
+        println!("{}", measure(work, &before, &after, rounds)?);
     }
     Ok(())
 }
