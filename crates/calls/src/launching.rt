@@ -9,7 +9,7 @@ use credentials::securebits::SECBIT_KEEP_CAPS;
 use credentials::securebits::SECBIT_NOROOT;
 use rules::Answer;
 ghost use mathlib.Core.Path.{_≡_};
-ghost use Rattle.rules.specs.Launching.{counted, countedSet, effectiveId, fallsShort, fileRead, gained, ignoresSetId, inForce, launch, launched, launchedAmbient, launchedEffective, launchedIds, launchedSets, rootCounts};
+ghost use Rattle.rules.specs.Launching.{changesEffective, counted, countedSet, effectiveId, fallsShort, fileRead, gained, ignoresSetId, inForce, launch, launched, launchedAmbient, launchedEffective, launchedIds, launchedSets, rootCounts};
 
 // The file's mode has the set-user-ID bit.
 const SET_USER_ID: u64 = 1;
@@ -91,7 +91,7 @@ fn launched(
     let uids = launched_ids(in_force(start.nnp, flags, SET_USER_ID), owner, start.uids);
     let gids = launched_ids(in_force(start.nnp, flags, SET_GROUP_ID), group, start.gids);
     let counts = counted(start.securebits, uids, file);
-    let ambient = launched_ambient(start.nnp, flags, file, start.sets.ambient);
+    let ambient = launched_ambient(start, owner, flags, group, file);
     let mut next = start;
     next.uids = uids;
     next.gids = gids;
@@ -156,14 +156,29 @@ fn root_counts(securebits: u64, uids: Ids, file: FileCapabilities) -> bool
     !(securebits & SECBIT_NOROOT != 0) & !keeps_own
 }
 
-// Launching, d: the ambient set, which a privileged file empties.
-fn launched_ambient(nnp: bool, flags: u64, file: FileCapabilities, ambient: u64) -> u64
-    ensures { λ r. ⌜ r ≡ launchedAmbient nnp flags file ambient ⌝ }
+// Launching, d: the ambient set, which a file empties whose attribute counts, or that has a set-ID bit that counts, each asked of its own ID.
+fn launched_ambient(
+    start: Credentials,
+    owner: u64,
+    flags: u64,
+    group: u64,
+    file: FileCapabilities,
+) -> u64
+    ensures { λ r. ⌜ r ≡ launchedAmbient start owner flags group file ⌝ }
 {
-    if file.attached | in_force(nnp, flags, SET_USER_ID) | in_force(nnp, flags, SET_GROUP_ID) {
+    let by_owner = changes_effective(in_force(start.nnp, flags, SET_USER_ID), owner, start.uids);
+    let by_group = changes_effective(in_force(start.nnp, flags, SET_GROUP_ID), group, start.gids);
+    if file.attached | by_owner | by_group {
         return 0;
     }
-    ambient
+    start.sets.ambient
+}
+
+// Launching, d: whether a set-ID bit counts: in force, it makes the effective ID differ from what it was.
+fn changes_effective(force: bool, id: u64, old: Ids) -> bool
+    ensures { λ r. ⌜ r ≡ changesEffective force id old ⌝ }
+{
+    force & (id != old.effective)
 }
 
 // Launching, e and f: what a file gives a thread with these sets.

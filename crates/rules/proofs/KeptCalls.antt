@@ -195,7 +195,7 @@ module _ (c : Credentials) (v : Valid c) where
         uids = launched-valid (inForce (c .nnp) flags SET-USER-ID) owner (c .uids) ho (v .uids);
         gids = launched-valid (inForce (c .nnp) flags SET-GROUP-ID) group (c .gids) hg (v .gids);
         sets = kept-launched _ _
-            (cond-cases (λ (a : ℕ). Within a (c .sets .inheritable)) (isPrivileged (c .nnp) flags f) _ _ (λ k. none-sub) (λ k. v .sets .ambient-inheritable));
+            (cond-cases (λ (a : ℕ). Within a (c .sets .inheritable)) (isPrivileged c owner flags group f) _ _ (λ k. none-sub) (λ k. v .sets .ambient-inheritable));
         securebits = bits-launched (c .securebits) (v .securebits-small);
       }
 

@@ -9,3 +9,4 @@ pub mod KeptCalls
 pub mod OneLaunch
 pub mod Demand3
 pub mod Flags
+pub mod AmbientAfterLaunch

@@ -1,4 +1,5 @@
--- "On the bench": cases 1 to 12 as one table, which carries one theorem (proofs/Cases.antt). A case of two parts is two rows. Assumes nothing.
+-- "On the bench", cases 1 to 12, and the two of "Ambient lost too easily", as one table, which carries one theorem (proofs/Cases.antt). A case of two
+-- parts is two rows. Assumes nothing.
 use Prim.Native.Nat.{ℕ}
 use mathlib.Core.Path.{_≡_}
 use mathlib.Core.Bool.{true, false}
@@ -72,6 +73,18 @@ table =
       start = withSets usual (sets (single 13) (single 13) (single 13) full (single 13));
       step = plain;
       expected = done 0 (withSets usual (sets (single 13) (single 13) (single 13) full (single 13)));
+    } ∷
+    -- as 2, set-user-ID, owner 1000: all stay
+    record {
+      start = withSets usual (sets (single 13) (single 13) (single 13) full (single 13));
+      step = call 1 1000 SET-USER-ID 0;
+      expected = done 0 (withSets usual (sets (single 13) (single 13) (single 13) full (single 13)));
+    } ∷
+    -- as 2, set-user-ID, owner 1001: A empty, so P and E empty; effective, saved and filesystem 1001
+    record {
+      start = withSets usual (sets (single 13) (single 13) (single 13) full (single 13));
+      step = call 1 1001 SET-USER-ID 0;
+      expected = done 0 (withSets (withUids usual (ids 1000 1001 1001 1001)) (sets 0 (single 13) 0 full 0));
     } ∷
     -- 3: as 2, attribute permitted {10}, bit on: P = E = {10}, A empty
     record {

@@ -96,13 +96,20 @@ counted securebits u f =
       effective = countedBit securebits u f;
     }
 
--- d: a privileged file (the paper's term) has an attribute attached or a set-ID bit in force
-unfoldable pub isPrivileged : Bool → ℕ → FileCapabilities → Bool
-isPrivileged nnp flags f = f .attached || inForce nnp flags SET-USER-ID || inForce nnp flags SET-GROUP-ID
+-- d: a set-ID bit counts where it is in force and makes the effective ID differ from what it was ("Ambient lost too easily")
+unfoldable pub changesEffective : Bool → ℕ → Ids → Bool
+changesEffective force id u = force && not (eqb id (u .effective))
+
+-- d: a privileged file (the paper's term) has an attribute attached or a set-ID bit that counts, each bit asked of its own ID
+unfoldable pub isPrivileged : Credentials → ℕ → ℕ → ℕ → FileCapabilities → Bool
+isPrivileged c owner flags group f =
+    f .attached
+    || changesEffective (inForce (c .nnp) flags SET-USER-ID) owner (c .uids)
+    || changesEffective (inForce (c .nnp) flags SET-GROUP-ID) group (c .gids)
 
 -- d: such a file empties the ambient set
-unfoldable pub launchedAmbient : Bool → ℕ → FileCapabilities → ℕ → ℕ
-launchedAmbient nnp flags f a = cond (isPrivileged nnp flags f) 0 a
+unfoldable pub launchedAmbient : Credentials → ℕ → ℕ → ℕ → FileCapabilities → ℕ
+launchedAmbient c owner flags group f = cond (isPrivileged c owner flags group f) 0 (c .sets .ambient)
 
 -- e and f: what a file gives: what is inheritable in both, and what it permits within the bounding set
 unfoldable pub gained : Sets → FileCapabilities → ℕ
@@ -140,7 +147,7 @@ unfoldable pub launched : Credentials → ℕ → ℕ → ℕ → FileCapabiliti
 launched c owner flags group f =
     let u : Ids = launchedUids c owner flags in
     let g : Ids = launchedGids c flags group in
-    let a : ℕ = launchedAmbient (c .nnp) flags f (c .sets .ambient) in
+    let a : ℕ = launchedAmbient c owner flags group f in
     withSecurebits (withSets (withGids (withUids c u) g) (launchedSets (c .sets) (counted (c .securebits) u f) a)) (launchedSecurebits (c .securebits))
 
 -- the launch of a file that was read: 60 where it could not be, then 1 by f

@@ -13,3 +13,4 @@ pub mod Run
 pub mod Cases
 pub mod Demand3
 pub mod CallsOnIds
+pub mod AmbientAfterLaunch

@@ -14,7 +14,7 @@ ghost use Prim.Native.Nat.{_≤_};
 ghost use lib.ListN.{length};
 
 // How many bytes of rows are read at most.
-const LARGEST_INPUT: usize = 131072;
+const LARGEST_INPUT: usize = 262144;
 
 fn main() {
     let mut text = [0u8; LARGEST_INPUT];

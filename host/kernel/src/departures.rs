@@ -26,11 +26,7 @@ macro_rules! departures {
 }
 
 departures! {
-    /// A set-user-ID bit whose owner is the effective ID already leaves the ambient set.
-    SetUserIdToOwnId "set-user-id-to-own-id",
-    /// A set-group-ID bit for the effective group leaves the ambient set.
-    SetGroupIdToOwnGroup "set-group-id-to-own-group",
-    /// So does one for another group that the thread is in.
+    /// A set-group-ID bit for another group that the thread is in leaves the ambient set.
     SetGroupIdToMemberGroup "set-group-id-to-member-group",
     /// A set-group-ID bit of a file that its group may not execute is ignored.
     SetGroupIdWithoutGroupExecution "set-group-id-without-group-execution",

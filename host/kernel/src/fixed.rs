@@ -1,5 +1,6 @@
-//! Plans that are run whatever the seed: the paper's cases 1 to 13 ("On the bench"), points that it leaves to the reader (docs/DECISIONS.md, 23),
-//! every value of the securebits, every choice of IDs for the ID calls, every way that a file's group can count, and the example plans.
+//! Plans that are run whatever the seed: the paper's cases ("On the bench" and "Ambient lost too easily"), points that it leaves to the reader
+//! (docs/DECISIONS.md, 23), every value of the securebits, every choice of IDs for the ID calls, every way that a file's owner and group can count, and
+//! the example plans.
 
 use crate::attribute::version_2;
 use crate::credentials::*;
@@ -45,6 +46,8 @@ pub fn cases() -> Vec<Plan> {
     vec![
         plan("case 1", with(NET_RAW, 0), plain()),
         plan("case 2", with(NET_RAW, NET_RAW), plain()),
+        plan("as case 2, owner 1000", with(NET_RAW, NET_RAW), vec![Step::launch(USER, SET_USER_ID, &[])]),
+        plan("as case 2, owner 1001", with(NET_RAW, NET_RAW), vec![Step::launch(1001, SET_USER_ID, &[])]),
         plan("case 3", with(NET_RAW, NET_RAW), launch(0, version_2(NET_BIND_SERVICE, 0, true))),
         plan(
             "case 4",
@@ -152,6 +155,26 @@ fn id_steps([set, set_two, set_three, set_filesystem]: [u32; 4], ids: Ids) -> Ve
         steps.push(Step::with(call, real, real, 1));
     }
     steps
+}
+
+/// Launches of a file of each user ID that a thread has and of another one, of its effective group and of another one, by every combination of flags,
+/// with and without no-new-privs.
+pub fn owners() -> Vec<Plan> {
+    let uids = Ids { real: USER, effective: 1001, saved: 1002, filesystem: 1003 };
+    let ambient = Credentials { uids, permitted: NET_RAW, inheritable: NET_RAW, ambient: NET_RAW, ..user() };
+    let mut plans = Vec::new();
+    for nnp in [false, true] {
+        for owner in [uids.real, uids.effective, uids.saved, uids.filesystem, 1004] {
+            for group in [ambient.gids.effective, 1001] {
+                for flags in 0..NO_FILE_CAPS {
+                    let name = format!("no-new-privs {nnp}, launch of owner {owner} and group {group}, flags {flags}");
+                    let step = Step::launch(owner, flags, &[]).of_group(group);
+                    plans.push(plan(&name, Credentials { nnp, ..ambient }, vec![step]));
+                }
+            }
+        }
+    }
+    plans
 }
 
 /// Launches of a file of each group that a thread has, of one that it is in besides and of one that it is not in, by every combination of flags, with

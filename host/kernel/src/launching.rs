@@ -30,7 +30,8 @@ pub fn launch(on: Switches, before: &Thread, step: &Step) -> Outcome {
     let is_root = counts_as_root(&new.credentials, file.attached);
     let bit = file.effective || is_root && new.credentials.uids.effective == 0;
     new.credentials.permitted = if is_root { old.inheritable | old.bounding } else { from_file };
-    let changes = changes_ids(on, before, &new, set_id);
+    let changes = changes_ids(on, before, &new);
+    let to_member_group = changes_to_member_group(before, &new);
     let gains = new.credentials.permitted & !old.permitted != 0;
     if changes || gains {
         cut(on, before, step, is_root, &mut new);
@@ -38,7 +39,7 @@ pub fn launch(on: Switches, before: &Thread, step: &Step) -> Outcome {
 
     follow(&mut new.credentials.uids);
     follow(&mut new.credentials.gids);
-    if file.attached || changes || counts_unchanged(on, before, step, set_id) {
+    if file.attached || changes || to_member_group && !on.on(SetGroupIdToMemberGroup) {
         new.credentials.ambient = 0;
     }
     new.credentials.permitted |= new.credentials.ambient;
@@ -70,12 +71,18 @@ fn counts_as_root(new: &Credentials, attached: bool) -> bool {
     (real || effective) && !is_exception && !new.is_secure(SECBIT_NOROOT)
 }
 
-// Whether an ID changes: the effective user ID becomes another, or the effective group is then one that the thread was not in. The kernel asks the
-// second also where no set-group-ID bit is in force.
-fn changes_ids(on: Switches, before: &Thread, new: &Thread, set_id: u64) -> bool {
-    let asks_group = set_id & SET_GROUP_ID != 0 || on.on(FilesystemGroupApart);
-    new.credentials.uids.effective != before.credentials.uids.effective
-        || asks_group && !before.is_in_group(new.credentials.gids.effective)
+// Whether an ID changes: the effective user ID becomes another, or the effective group becomes another, one that the thread was not in. The kernel asks
+// whether the thread was in it also where the effective group stays.
+fn changes_ids(on: Switches, before: &Thread, new: &Thread) -> bool {
+    let (old, new) = (&before.credentials, &new.credentials);
+    let asks_group = new.gids.effective != old.gids.effective || on.on(FilesystemGroupApart);
+    new.uids.effective != old.uids.effective || asks_group && !before.is_in_group(new.gids.effective)
+}
+
+// "Launching, d" counts such a change too, where the kernel sees none.
+fn changes_to_member_group(before: &Thread, new: &Thread) -> bool {
+    let group = new.credentials.gids.effective;
+    group != before.credentials.gids.effective && before.is_in_group(group)
 }
 
 // The kernel's way with a launch that is not safe: done, but with no more than there was before.
@@ -105,14 +112,4 @@ fn cut(on: Switches, before: &Thread, step: &Step, is_root: bool, new: &mut Thre
 fn follow(ids: &mut Ids) {
     ids.saved = ids.effective;
     ids.filesystem = ids.effective;
-}
-
-// "Launching, d" counts a set-ID bit also where the kernel sees no change.
-fn counts_unchanged(on: Switches, before: &Thread, step: &Step, set_id: u64) -> bool {
-    let own_id = set_id & SET_USER_ID != 0 && step.a as u32 == before.credentials.uids.effective;
-    let group = step.c as u32;
-    let known_group = set_id & SET_GROUP_ID != 0 && before.is_in_group(group);
-    let by_group =
-        if group == before.credentials.gids.effective { SetGroupIdToOwnGroup } else { SetGroupIdToMemberGroup };
-    own_id && !on.on(SetUserIdToOwnId) || known_group && !on.on(by_group)
 }

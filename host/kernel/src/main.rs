@@ -116,6 +116,7 @@ fn run(options: &Options, tag: &str) -> io::Result<Tally> {
         witnesses(),
         fixed::securebits(),
         fixed::id_calls(),
+        fixed::owners(),
         fixed::groups(),
         examples,
     ];

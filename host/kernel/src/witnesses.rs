@@ -29,7 +29,7 @@ fn witness(departure: Departure) -> Plan {
         | AttributeVersion3Honoured
         | AttributeVersion3OtherRoot
         | AttributeWithoutBytes => (user(), attribute(departure)),
-        SetUserIdToOwnId | SetGroupIdToOwnGroup | SetGroupIdToMemberGroup | FilesystemGroupApart => ambient(departure),
+        SetGroupIdToMemberGroup | FilesystemGroupApart => ambient(departure),
         SetGroupIdWithoutGroupExecution => (user(), without_group_execution()),
         NoNewPrivsReadsAttribute
         | NoNewPrivsCutsGain
@@ -89,14 +89,11 @@ fn ambient(departure: Departure) -> (Thread, Step) {
     start.credentials.inheritable = NET_RAW;
     start.credentials.ambient = NET_RAW;
     let mut step = Step::launch(USER, 0, &[]);
-    match departure {
-        SetUserIdToOwnId => step.b = SET_USER_ID,
-        SetGroupIdToOwnGroup => (step.b, step.c) = (SET_GROUP_ID, u64::from(GROUP)),
-        SetGroupIdToMemberGroup => {
-            start.member = Some(MEMBER);
-            (step.b, step.c) = (SET_GROUP_ID, u64::from(MEMBER));
-        }
-        _ => start.credentials.gids.filesystem = OTHER_GROUP,
+    if departure == SetGroupIdToMemberGroup {
+        start.member = Some(MEMBER);
+        (step.b, step.c) = (SET_GROUP_ID, u64::from(MEMBER));
+    } else {
+        start.credentials.gids.filesystem = OTHER_GROUP;
     }
     (start, step)
 }

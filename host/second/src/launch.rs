@@ -35,9 +35,13 @@ impl File {
         })
     }
 
-    /// Launching, d: such a file empties the ambient set.
-    fn is_privileged(&self) -> bool {
-        self.attribute.is_some() || self.set_user_id || self.set_group_id
+    /// Launching, d: such a file empties the ambient set. A set-ID bit counts only if it changes the effective ID;
+    /// nothing else in a launch does, so the IDs alone are asked.
+    fn is_privileged(&self, before: &Credentials, after: &Credentials) -> bool {
+        let has_capabilities = self.attribute.is_some();
+        let changes_user = after.euid != before.euid;
+        let changes_group = after.egid != before.egid;
+        has_capabilities || changes_user || changes_group
     }
 }
 
@@ -56,7 +60,8 @@ pub(crate) fn execve(
     after.set_user_ids(launched_ids(before.user_ids(), file.set_user_id, owner));
     after.set_group_ids(launched_ids(before.group_ids(), file.set_group_id, group));
     let counted = counted_capabilities(&after, file.attribute);
-    change_sets(&mut after, counted, file.is_privileged());
+    let privileged = file.is_privileged(before, &after);
+    change_sets(&mut after, counted, privileged);
     after.securebits &= !SECBIT_KEEP_CAPS;
     Ok(after)
 }

@@ -1,10 +1,12 @@
-//! "Launching", a to f.
+//! "Launching", a to f, with rule d as "Ambient lost too easily" has it.
 
+mod ambient;
 mod groups;
 mod root;
 mod rows;
 
 use super::attribute::{read, File, Reading};
+use super::family::Family;
 use super::moment::{is_within, NOROOT};
 use second::{Credentials, Step};
 
@@ -43,6 +45,10 @@ pub struct Launch {
     effective: u32,
     /// The effective group ID after b.
     effective_group: u32,
+    /// Whether b makes the effective user ID another.
+    changes_user: bool,
+    /// Whether b makes the effective group ID another.
+    changes_group: bool,
     noroot: bool,
 }
 
@@ -67,18 +73,22 @@ impl Launch {
             real: before.ruid,
             effective: before.euid,
             effective_group: before.egid,
+            changes_user: false,
+            changes_group: false,
             noroot: before.securebits & NOROOT != 0,
         };
         if let Reading::File(file) = launch.reading {
             launch.falls_short = !is_within(file.permitted, own_gain(before, &file));
             launch.file = (!launch.attribute_is_ignored()).then_some(file);
         }
-        if launch.set_user_id && !launch.set_ids_are_ignored() {
+        if launch.is_in_force(Family::Users) {
             launch.effective = launch.owner;
         }
-        if launch.set_group_id && !launch.set_ids_are_ignored() {
+        if launch.is_in_force(Family::Groups) {
             launch.effective_group = launch.group;
         }
+        launch.changes_user = launch.effective != before.euid;
+        launch.changes_group = launch.effective_group != before.egid;
         launch
     }
 
@@ -90,6 +100,35 @@ impl Launch {
     /// a: by any of the causes.
     pub fn attribute_is_ignored(&self) -> bool {
         !self.causes.is_empty()
+    }
+
+    /// Whether the file has the family's set-ID bit.
+    fn has_bit_of(&self, family: Family) -> bool {
+        match family {
+            Family::Users => self.set_user_id,
+            Family::Groups => self.set_group_id,
+        }
+    }
+
+    /// Whether that bit is there and not ignored.
+    fn is_in_force(&self, family: Family) -> bool {
+        self.has_bit_of(family) && !self.set_ids_are_ignored()
+    }
+
+    /// The file's ID in that family: its owner or its group.
+    fn file_id(&self, family: Family) -> u32 {
+        match family {
+            Family::Users => self.owner,
+            Family::Groups => self.group,
+        }
+    }
+
+    /// Whether the launch makes the family's effective ID another.
+    fn changes(&self, family: Family) -> bool {
+        match family {
+            Family::Users => self.changes_user,
+            Family::Groups => self.changes_group,
+        }
     }
 
     fn is_only_by(&self, cause: Cause) -> bool {
@@ -114,9 +153,9 @@ impl Launch {
         self.file.is_some_and(|file| file.effective)
     }
 
-    /// d: by attribute or by a set-ID bit, neither being ignored.
+    /// d: by an attribute that is not ignored, or by a set-ID bit in force that makes its effective ID another.
     fn is_privileged(&self) -> bool {
-        self.file.is_some() || ((self.set_user_id || self.set_group_id) && !self.set_ids_are_ignored())
+        self.file.is_some() || self.changes_user || self.changes_group
     }
 }
 

@@ -1,4 +1,4 @@
-//! On the bench: the thirteen cases, the quoted report and the quoted attribute.
+//! On the bench: the thirteen cases, the two that came with the new rule d, the quoted report and the quoted attribute.
 
 use crate::helpers::*;
 use second::{Credentials, Outcome};
@@ -13,6 +13,18 @@ fn case_1() {
 #[test]
 fn case_2() {
     assert_eq!(after(&ambient_user(), &execve(0, 0, vec![])), ambient_user());
+}
+
+#[test]
+fn case_2_but_set_user_id_of_owner_1000() {
+    assert_eq!(after(&ambient_user(), &execve(1000, SET_USER_ID, vec![])), ambient_user());
+}
+
+#[test]
+fn case_2_but_set_user_id_of_owner_1001() {
+    let expected =
+        Credentials { permitted: 0, effective: 0, ambient: 0, ..with_ids(ambient_user(), 1000, 1001, 1001, 1001) };
+    assert_eq!(after(&ambient_user(), &execve(1001, SET_USER_ID, vec![])), expected);
 }
 
 #[test]
@@ -102,6 +114,35 @@ fn the_whole_report_of_case_2() {
     let (outcome, report) = run(format!("{SHEET}{LAUNCH}").as_bytes());
     assert_eq!(report, REPORT);
     assert_eq!(outcome, Outcome::Report { length: REPORT.len() });
+}
+
+#[test]
+fn the_whole_reports_of_case_2_but_set_user_id() {
+    let launch = LAUNCH.replace("b=0000000000000000", "b=0000000000000001");
+    let of_owner_1000 = launch.replace("a=0000000000000000", "a=00000000000003e8");
+    assert_eq!(run(format!("{SHEET}{of_owner_1000}").as_bytes()).1, REPORT);
+
+    let of_owner_1001 = launch.replace("a=0000000000000000", "a=00000000000003e9");
+    let expected = "\
+code=0
+value=0000000000000000
+ruid=1000
+euid=1001
+suid=1001
+fsuid=1001
+rgid=1000
+egid=1000
+sgid=1000
+fsgid=1000
+permitted=0000000000000000
+inheritable=0000000000002000
+effective=0000000000000000
+bounding=000001ffffffffff
+ambient=0000000000000000
+securebits=00
+nnp=0
+";
+    assert_eq!(run(format!("{SHEET}{of_owner_1001}").as_bytes()).1, expected);
 }
 
 #[test]

@@ -379,3 +379,29 @@ nnp=0
     let report = run(format!("{START}{refused}").as_bytes()).1;
     assert_eq!(report, format!("code=22\nvalue=0000000000000000\n{START}"));
 }
+
+#[test]
+fn a_set_group_id_launch_in_the_effective_group_in_a_plan() {
+    // Group 200 is the effective one already: the sets stay, and the saved and filesystem groups follow.
+    let launch = steps(&[(1, [0, SET_GROUP_ID, 200])]);
+    let expected = "\
+code=0
+value=0000000000000000
+ruid=1000
+euid=1000
+suid=1000
+fsuid=1000
+rgid=100
+egid=200
+sgid=200
+fsgid=200
+permitted=0000000000002000
+inheritable=0000000000002000
+effective=0000000000002000
+bounding=000001ffffffffff
+ambient=0000000000002000
+securebits=00
+nnp=0
+";
+    assert_eq!(run(format!("{START}{launch}").as_bytes()).1, expected);
+}

@@ -104,6 +104,19 @@ fn b_each_set_id_bit_has_its_own_ids() {
 }
 
 #[test]
+fn b_a_set_id_bit_that_changes_nothing_is_in_force_all_the_same() {
+    let launched = |owner, group, flags| after(&four_groups(), &of_group(group, execve(owner, flags, vec![])));
+    let expected = with_groups(with_ids(user(), 11, 12, 12, 12), 1, 2, 2, 2);
+    assert_eq!(launched(12, 9, SET_USER_ID), expected);
+    assert_eq!(launched(8, 2, SET_GROUP_ID), expected);
+    assert_eq!(launched(12, 2, SET_USER_ID | SET_GROUP_ID), expected);
+    let expected = with_groups(with_ids(user(), 11, 12, 12, 12), 1, 9, 9, 9);
+    assert_eq!(launched(12, 9, SET_USER_ID | SET_GROUP_ID), expected);
+    let expected = with_groups(with_ids(user(), 11, 8, 8, 8), 1, 2, 2, 2);
+    assert_eq!(launched(8, 2, SET_USER_ID | SET_GROUP_ID), expected);
+}
+
+#[test]
 fn b_set_group_id_is_ignored_under_no_new_privs_nosuid_and_traced() {
     let nnp = Credentials { nnp: true, ..four_groups() };
     for attr in [vec![], attribute(FULL, FULL, true), unreadable()] {
@@ -235,26 +248,266 @@ fn c_noroot_stops_the_special_treatment() {
 
 #[test]
 fn d_each_kind_of_privilege_empties_ambient() {
-    let plain = after(&ambient_user(), &execve(1000, 0, vec![]));
-    assert_eq!(plain.ambient, NET_RAW);
-    for (flags, attr) in
-        [(SET_USER_ID, vec![]), (SET_GROUP_ID, vec![]), (0, attribute(0, 0, false)), (NO_FILE_CAPS | 2, vec![])]
-    {
-        let launched = after(&ambient_user(), &execve(1000, flags, attr));
+    let plain = after(&ambient_user(), &of_group(1000, execve(1000, 0, vec![])));
+    assert_eq!(plain, ambient_user());
+    for (flags, owner, group, attr) in [
+        (SET_USER_ID, 2000, 1000, vec![]),
+        (SET_GROUP_ID, 1000, 2000, vec![]),
+        (0, 1000, 1000, attribute(0, 0, false)),
+        (NO_FILE_CAPS | SET_USER_ID, 2000, 1000, vec![]),
+        (NO_FILE_CAPS | SET_GROUP_ID, 1000, 2000, vec![]),
+    ] {
+        let launched = after(&ambient_user(), &of_group(group, execve(owner, flags, attr)));
         assert_eq!((launched.ambient, launched.permitted, launched.effective), (0, 0, 0));
     }
 }
 
+/// As `four_groups`, with the sets of case 2: effective user 12, effective group 2.
+fn ambient_four_groups() -> Credentials {
+    with_groups(with_ids(ambient_user(), 11, 12, 13, 14), 1, 2, 3, 4)
+}
+
+/// That thread after the launch of a file of this owner and group.
+fn ambient_launch(owner: u64, group: u64, flags: u64) -> Credentials {
+    after(&ambient_four_groups(), &of_group(group, execve(owner, flags, vec![])))
+}
+
+/// That thread after a launch that ends in this effective user and group and leaves A.
+fn kept(euid: u32, egid: u32) -> Credentials {
+    with_groups(with_ids(ambient_user(), 11, euid, euid, euid), 1, egid, egid, egid)
+}
+
+/// That thread after a launch that ends in this effective user and group and empties A.
+fn emptied(euid: u32, egid: u32) -> Credentials {
+    without_ambient(kept(euid, egid))
+}
+
+/// The same with A empty, and with it P and E, where the file gives nothing.
+fn without_ambient(credentials: Credentials) -> Credentials {
+    Credentials { permitted: 0, effective: 0, ambient: 0, ..credentials }
+}
+
 #[test]
-fn d_set_group_id_empties_ambient_whatever_the_group() {
-    let before = with_groups(ambient_user(), 1, 2, 3, 4);
-    for group in [0, 1, 2, 3, 4, 9] {
-        let launched = after(&before, &of_group(group, execve(1000, SET_GROUP_ID, vec![])));
-        assert_eq!((launched.ambient, launched.permitted, launched.effective), (0, 0, 0));
-        for flags in [0, SET_GROUP_ID | NOSUID, SET_GROUP_ID | TRACED] {
-            let launched = after(&before, &of_group(group, execve(1000, flags, vec![])));
-            assert_eq!(launched, with_groups(ambient_user(), 1, 2, 2, 2));
+fn d_set_user_id_empties_ambient_unless_the_owner_is_the_effective_user() {
+    // The real, saved and filesystem user ID, the four group IDs, and others.
+    for owner in [11, 13, 14, 1, 2, 3, 4, 9, 12 + 65_536, 12 + 2_147_483_648, 4_294_967_294] {
+        assert_eq!(ambient_launch(u64::from(owner), 9, SET_USER_ID), emptied(owner, 2));
+    }
+    assert_eq!(ambient_launch(12, 9, SET_USER_ID), kept(12, 2));
+
+    let highest = with_ids(ambient_user(), 1000, 4_294_967_294, 1000, 1000);
+    let expected = with_ids(ambient_user(), 1000, 4_294_967_294, 4_294_967_294, 4_294_967_294);
+    assert_eq!(after(&highest, &execve(4_294_967_294, SET_USER_ID, vec![])), expected);
+}
+
+#[test]
+fn d_set_group_id_empties_ambient_unless_the_group_is_the_effective_one() {
+    // The real, saved and filesystem group, the four user IDs, and others.
+    for group in [1, 3, 4, 11, 12, 13, 14, 0, 9, 2 + 65_536, 2 + 2_147_483_648, 4_294_967_294] {
+        assert_eq!(ambient_launch(9, u64::from(group), SET_GROUP_ID), emptied(12, group));
+    }
+    assert_eq!(ambient_launch(9, 2, SET_GROUP_ID), kept(12, 2));
+
+    let highest = with_groups(ambient_user(), 1000, 4_294_967_294, 1000, 1000);
+    let expected = with_groups(ambient_user(), 1000, 4_294_967_294, 4_294_967_294, 4_294_967_294);
+    assert_eq!(after(&highest, &of_group(4_294_967_294, execve(9, SET_GROUP_ID, vec![]))), expected);
+}
+
+/// Real, saved and filesystem ID of a thread whose effective ID is 12: each of them alone another one, two, all.
+const NOT_EFFECTIVE: [[u32; 3]; 7] =
+    [[8, 12, 12], [12, 8, 12], [12, 12, 8], [8, 8, 12], [8, 12, 8], [12, 8, 8], [8, 8, 8]];
+
+#[test]
+fn d_the_real_saved_and_filesystem_users_are_not_asked() {
+    for [ruid, suid, fsuid] in NOT_EFFECTIVE {
+        let before = with_ids(ambient_user(), ruid, 12, suid, fsuid);
+        let expected = with_ids(ambient_user(), ruid, 12, 12, 12);
+        assert_eq!(after(&before, &execve(12, SET_USER_ID, vec![])), expected);
+        let expected = without_ambient(with_ids(ambient_user(), ruid, 8, 8, 8));
+        assert_eq!(after(&before, &execve(8, SET_USER_ID, vec![])), expected);
+    }
+}
+
+#[test]
+fn d_the_real_saved_and_filesystem_groups_are_not_asked() {
+    for [rgid, sgid, fsgid] in NOT_EFFECTIVE {
+        let before = with_groups(ambient_user(), rgid, 12, sgid, fsgid);
+        let expected = with_groups(ambient_user(), rgid, 12, 12, 12);
+        assert_eq!(after(&before, &of_group(12, execve(9, SET_GROUP_ID, vec![]))), expected);
+        let expected = without_ambient(with_groups(ambient_user(), rgid, 8, 8, 8));
+        assert_eq!(after(&before, &of_group(8, execve(9, SET_GROUP_ID, vec![]))), expected);
+    }
+}
+
+#[test]
+fn d_of_both_bits_one_that_changes_its_id_is_enough() {
+    let both = SET_USER_ID | SET_GROUP_ID;
+    assert_eq!(ambient_launch(12, 2, both), kept(12, 2));
+    assert_eq!(ambient_launch(8, 2, both), emptied(8, 2));
+    assert_eq!(ambient_launch(12, 9, both), emptied(12, 9));
+    assert_eq!(ambient_launch(8, 9, both), emptied(8, 9));
+}
+
+#[test]
+fn d_a_bit_that_is_not_set_does_not_count() {
+    for (owner, group) in [(12, 2), (8, 2), (12, 9), (8, 9)] {
+        assert_eq!(ambient_launch(owner, group, 0), kept(12, 2));
+    }
+    // The file's other ID has no say, neither for A nor against it.
+    assert_eq!(ambient_launch(12, 9, SET_USER_ID), kept(12, 2));
+    assert_eq!(ambient_launch(8, 2, SET_USER_ID), emptied(8, 2));
+    assert_eq!(ambient_launch(8, 2, SET_GROUP_ID), kept(12, 2));
+    assert_eq!(ambient_launch(12, 9, SET_GROUP_ID), emptied(12, 9));
+}
+
+#[test]
+fn d_each_bit_is_asked_of_its_own_id() {
+    // The owner is the effective group, the file's group the effective user.
+    for (owner, group) in [(2, 12), (2, 2), (2, 9)] {
+        assert_eq!(ambient_launch(owner, group, SET_USER_ID), emptied(2, 2));
+    }
+    for (owner, group) in [(2, 12), (12, 12), (9, 12)] {
+        assert_eq!(ambient_launch(owner, group, SET_GROUP_ID), emptied(12, 12));
+    }
+    let both = SET_USER_ID | SET_GROUP_ID;
+    assert_eq!(ambient_launch(2, 12, both), emptied(2, 12));
+    assert_eq!(ambient_launch(2, 2, both), emptied(2, 2));
+    assert_eq!(ambient_launch(12, 12, both), emptied(12, 12));
+}
+
+#[test]
+fn d_an_ignored_bit_does_not_count() {
+    let nnp = Credentials { nnp: true, ..ambient_four_groups() };
+    for bits in [SET_USER_ID, SET_GROUP_ID, SET_USER_ID | SET_GROUP_ID] {
+        for (owner, group) in [(12, 2), (8, 2), (12, 9), (8, 9)] {
+            for flags in [bits, bits | NO_FILE_CAPS] {
+                assert_eq!(ambient_launch(owner, group, flags | NOSUID), kept(12, 2));
+                assert_eq!(ambient_launch(owner, group, flags | TRACED), kept(12, 2));
+                assert_eq!(ambient_launch(owner, group, flags | NOSUID | TRACED), kept(12, 2));
+                let launched = after(&nnp, &of_group(group, execve(owner, flags, vec![])));
+                assert_eq!(launched, Credentials { nnp: true, ..kept(12, 2) });
+            }
         }
+    }
+}
+
+#[test]
+fn d_no_file_caps_leaves_the_bits() {
+    for attr in [vec![], attribute(FULL, FULL, true), unreadable()] {
+        let launched = |owner, group, bits| {
+            after(&ambient_four_groups(), &of_group(group, execve(owner, NO_FILE_CAPS | bits, attr.clone())))
+        };
+        assert_eq!(launched(12, 9, SET_USER_ID), kept(12, 2));
+        assert_eq!(launched(8, 2, SET_USER_ID), emptied(8, 2));
+        assert_eq!(launched(8, 2, SET_GROUP_ID), kept(12, 2));
+        assert_eq!(launched(12, 9, SET_GROUP_ID), emptied(12, 9));
+
+        let both = SET_USER_ID | SET_GROUP_ID;
+        assert_eq!(launched(12, 2, both), kept(12, 2));
+        assert_eq!(launched(8, 2, both), emptied(8, 2));
+        assert_eq!(launched(12, 9, both), emptied(12, 9));
+        assert_eq!(launched(8, 9, both), emptied(8, 9));
+    }
+}
+
+#[test]
+fn d_an_attribute_counts_beside_bits_that_change_nothing() {
+    for bits in [0, SET_USER_ID, SET_GROUP_ID, SET_USER_ID | SET_GROUP_ID] {
+        let file = |attr| of_group(2, execve(12, bits, attr));
+        let launched = |attr| after(&ambient_four_groups(), &file(attr));
+        assert_eq!(launched(attribute(0, 0, false)), emptied(12, 2));
+        assert_eq!(launched(attribute(0, 0, true)), emptied(12, 2));
+        assert_eq!(launched(vec![0, 0, 0, 1, 0, 0, 0, 0, 0, 0, 0, 0]), emptied(12, 2));
+
+        let expected = Credentials { permitted: NET_ADMIN, effective: NET_ADMIN, ..emptied(12, 2) };
+        assert_eq!(launched(attribute(NET_ADMIN, 0, true)), expected);
+        // NET_RAW is permitted again by I; with A it would be effective too.
+        let expected = Credentials { permitted: NET_RAW, ..emptied(12, 2) };
+        assert_eq!(launched(attribute(0, NET_RAW, false)), expected);
+
+        assert_refused(&ambient_four_groups(), &file(unreadable()), 60);
+        let before = Credentials { bounding: 0, ..ambient_four_groups() };
+        assert_refused(&before, &file(attribute(NET_RAW, 0, true)), 1);
+    }
+}
+
+#[test]
+fn d_the_effective_ids_just_before_the_launch_are_asked() {
+    let before = with_groups(with_ids(ambient_user(), 5, 5, 6, 5), 7, 7, 8, 7);
+    let both = SET_USER_ID | SET_GROUP_ID;
+    let file = of_group(8, execve(6, both, vec![]));
+    let expected = with_groups(with_ids(ambient_user(), 5, 6, 6, 6), 7, 8, 8, 8);
+    assert_eq!(after(&before, &file), without_ambient(expected.clone()));
+
+    // Setresuid to the owner leaves the group to be changed, setresgid then nothing.
+    let user_set = after(&before, &step(17, LEAVE, 6, LEAVE));
+    assert_eq!(after(&user_set, &file), without_ambient(expected.clone()));
+    let both_set = after(&user_set, &step(21, LEAVE, 8, LEAVE));
+    assert_eq!(after(&both_set, &file), expected);
+
+    // A first launch changes both and leaves NET_RAW permitted; raised again, it stays in the next launch.
+    let first = after(&before, &of_group(8, execve(6, both, attribute(0, NET_RAW, false))));
+    assert_eq!((first.permitted, first.ambient), (NET_RAW, 0));
+    let raised = after(&first, &step(5, 13, 0, 0));
+    assert_eq!(after(&raised, &file), expected);
+}
+
+#[test]
+fn d_roots_own_set_user_id_file_leaves_ambient() {
+    let before = with_ids(ambient_user(), 0, 0, 0, 0);
+    let expected = Credentials { permitted: FULL, effective: FULL, ..before.clone() };
+    assert_eq!(after(&before, &execve(0, SET_USER_ID, vec![])), expected);
+    // Real 0 still gives P, but no longer E.
+    let away = Credentials { permitted: FULL, ..without_ambient(with_ids(before.clone(), 0, 1000, 1000, 1000)) };
+    assert_eq!(after(&before, &execve(1000, SET_USER_ID, vec![])), away);
+
+    // Under NOROOT there is nothing but A to give.
+    let before = Credentials { securebits: NOROOT, ..before };
+    assert_eq!(after(&before, &execve(0, SET_USER_ID, vec![])), before);
+    let away = without_ambient(with_ids(before.clone(), 0, 1000, 1000, 1000));
+    assert_eq!(after(&before, &execve(1000, SET_USER_ID, vec![])), away);
+}
+
+#[test]
+fn d_real_root_and_effective_root_go_by_the_effective_user() {
+    let real_root = with_ids(ambient_user(), 0, 1000, 1000, 1000);
+    let expected = Credentials { permitted: FULL, ..real_root.clone() };
+    assert_eq!(after(&real_root, &execve(1000, SET_USER_ID, vec![])), expected);
+    let expected =
+        Credentials { permitted: FULL, effective: FULL, ambient: 0, ..with_ids(real_root.clone(), 0, 0, 0, 0) };
+    assert_eq!(after(&real_root, &execve(0, SET_USER_ID, vec![])), expected);
+
+    let effective_root = with_ids(ambient_user(), 1000, 0, 0, 0);
+    let expected = Credentials { permitted: FULL, effective: FULL, ..effective_root.clone() };
+    assert_eq!(after(&effective_root, &execve(0, SET_USER_ID, vec![])), expected);
+    assert_eq!(after(&effective_root, &execve(1000, SET_USER_ID, vec![])), without_ambient(ambient_user()));
+}
+
+#[test]
+fn d_group_0_is_a_group_like_any_other() {
+    let before = with_groups(ambient_user(), 1000, 0, 1000, 1000);
+    let launched = after(&before, &of_group(0, execve(9, SET_GROUP_ID, vec![])));
+    assert_eq!(launched, with_groups(ambient_user(), 1000, 0, 0, 0));
+    let launched = after(&before, &of_group(1000, execve(9, SET_GROUP_ID, vec![])));
+    assert_eq!(launched, without_ambient(ambient_user()));
+
+    // Root's own file, of a group that is not its own.
+    let before = with_ids(ambient_user(), 0, 0, 0, 0);
+    let launched = after(&before, &of_group(0, execve(0, SET_USER_ID | SET_GROUP_ID, vec![])));
+    let expected = Credentials { permitted: FULL, effective: FULL, ambient: 0, ..before };
+    assert_eq!(launched, with_groups(expected, 1000, 0, 0, 0));
+}
+
+#[test]
+fn d_securebits_have_no_say() {
+    for securebits in 0..=255 {
+        let before = Credentials { securebits, ..ambient_four_groups() };
+        let securebits = securebits & !KEEP_CAPS;
+        let both = SET_USER_ID | SET_GROUP_ID;
+        let launched = |owner, group| after(&before, &of_group(group, execve(owner, both, vec![])));
+        assert_eq!(launched(12, 2), Credentials { securebits, ..kept(12, 2) });
+        assert_eq!(launched(8, 2), Credentials { securebits, ..emptied(8, 2) });
+        assert_eq!(launched(12, 9), Credentials { securebits, ..emptied(12, 9) });
     }
 }
 

@@ -1,19 +1,19 @@
-//! The rows of "Launching" that speak of the file's group: a, b and d with the set-group-ID bit, and that a group 0 is no root.
+//! The rows of "Launching" that speak of the file's group: a and b with the set-group-ID bit, and that a group 0 is no root.
 
 use super::rows::{done, full_gain, has_bit, refused, Part};
 use super::{own_gain, Cause, Launch};
+use crate::branches::family::Family;
 use crate::branches::validity::LARGEST_ID;
 use crate::branches::Moment;
 
 /// The rows of the group.
 pub fn rows() -> Part {
-    let parts = [ignored(), ids(), no_root(), ambient()];
+    let parts = [ignored(), ids(), no_root()];
     parts.into_iter().flatten().collect()
 }
 
-// Whether the set-group-ID bit is there and not ignored.
 fn is_in_force(l: &Launch) -> bool {
-    l.set_group_id && !l.set_ids_are_ignored()
+    l.is_in_force(Family::Groups)
 }
 
 fn is_another(m: &Moment, l: &Launch) -> bool {
@@ -180,36 +180,6 @@ fn no_root() -> Part {
                 !l.noroot && l.real != 0 && l.effective == 0 && no_group_0 && l.file.is_some()
             },
             gains_its_own,
-        ),
-    ]
-}
-
-// d: a set-group-ID bit in force, whatever the group; a group without it, never.
-fn ambient() -> Part {
-    let by_the_bit_alone =
-        |m: &Moment, l: &Launch| m.before.ambient != 0 && is_in_force(l) && !l.set_user_id && l.file.is_none();
-    let cleared = |m: &Moment, _: &Launch| m.answer.after.ambient == 0;
-    let kept = |m: &Moment, _: &Launch| m.answer.after.ambient == m.before.ambient;
-    vec![
-        done(
-            "d: ambient cleared by set-group-ID of another group",
-            move |m, l| by_the_bit_alone(m, l) && is_another(m, l),
-            cleared,
-        ),
-        done(
-            "d: ambient cleared by set-group-ID of the same group",
-            move |m, l| by_the_bit_alone(m, l) && !is_another(m, l),
-            cleared,
-        ),
-        done(
-            "d: ambient kept, another group without set-group-ID",
-            |m, l| m.before.ambient != 0 && !l.is_privileged() && !l.set_group_id && is_another(m, l),
-            kept,
-        ),
-        done(
-            "d: ambient kept though the saved group moves",
-            |m, l| m.before.ambient != 0 && !l.is_privileged() && m.before.sgid != m.before.egid,
-            kept,
         ),
     ]
 }

@@ -1,6 +1,6 @@
-//! The rows of "Launching", letter by letter; those of c are in `root`, those of the file's group in `groups`.
+//! The rows of "Launching", letter by letter; those of c are in `root`, those of d in `ambient`, those of the file's group in `groups`.
 
-use super::{groups, own_gain, root, Cause, Launch, Reading};
+use super::{ambient, groups, own_gain, root, Cause, Launch, Reading};
 use crate::branches::moment::{is_within, KEEP_CAPS};
 use crate::branches::{Moment, Row};
 
@@ -8,7 +8,7 @@ const KEEP_CAPS_LOCK: u8 = 2 * KEEP_CAPS;
 
 /// All of them.
 pub fn rows() -> Vec<Row<Moment>> {
-    let parts = [ignored(), ids(), root::rows(), ambient(), sets(), missing(), groups::rows()];
+    let parts = [ignored(), ids(), root::rows(), ambient::rows(), sets(), missing(), groups::rows()];
     parts.into_iter().flatten().collect()
 }
 
@@ -48,11 +48,6 @@ fn ignored() -> Part {
                 move |m, l| l.is_only_by(cause) && l.set_user_id && l.owner != m.before.euid,
                 |m, _| m.answer.after.euid == m.before.euid,
             ));
-            rows.push(done(
-                format!("a: set-group-ID ignored by {name}, ambient kept"),
-                move |m, l| l.is_only_by(cause) && l.set_group_id && !l.set_user_id && m.before.ambient != 0,
-                |m, _| m.answer.after.ambient == m.before.ambient,
-            ));
         }
         rows.push(done(
             format!("a: attribute ignored by {name}, ambient kept"),
@@ -74,11 +69,6 @@ fn ignored() -> Part {
         "a: set-user-ID in force under no_file_caps",
         |m, l| l.is_only_by(Cause::NoFileCaps) && l.set_user_id && l.owner != m.before.euid,
         |m, l| m.answer.after.euid == l.owner,
-    ));
-    rows.push(done(
-        "a: set-group-ID in force under no_file_caps, ambient cleared",
-        |m, l| l.is_only_by(Cause::NoFileCaps) && l.set_group_id && m.before.ambient != 0,
-        |m, _| m.answer.after.ambient == 0,
     ));
     rows
 }
@@ -155,55 +145,6 @@ pub fn full_gain(m: &Moment) -> u64 {
 /// Whether an attribute is in force whose bit is so.
 pub fn has_bit(launch: &Launch, on: bool) -> bool {
     launch.file.is_some_and(|file| file.effective == on)
-}
-
-// d: which files are privileged, and the ambient set.
-fn ambient() -> Part {
-    let only_attribute = |l: &Launch| l.file.is_some() && !l.set_user_id && !l.set_group_id;
-    let cleared = |m: &Moment, _: &Launch| m.answer.after.ambient == 0;
-    let kept = |m: &Moment, _: &Launch| {
-        let ambient = m.before.ambient;
-        let after = &m.answer.after;
-        after.ambient == ambient && is_within(ambient, after.permitted) && is_within(ambient, after.effective)
-    };
-    let in_force = |l: &Launch| !l.set_ids_are_ignored() && l.file.is_none();
-    vec![
-        done("d: ambient cleared by an attribute", move |m, l| m.before.ambient != 0 && only_attribute(l), cleared),
-        done(
-            "d: ambient cleared by an attribute of empty sets, bit off",
-            move |m, l| {
-                let is_empty = |file: super::File| file.permitted | file.inheritable == 0 && !file.effective;
-                m.before.ambient != 0 && only_attribute(l) && l.file.is_some_and(is_empty)
-            },
-            cleared,
-        ),
-        done(
-            "d: ambient cleared by set-user-ID",
-            move |m, l| m.before.ambient != 0 && in_force(l) && l.set_user_id && !l.set_group_id,
-            cleared,
-        ),
-        done(
-            "d: ambient cleared by set-user-ID of the same owner",
-            move |m, l| m.before.ambient != 0 && in_force(l) && l.set_user_id && l.owner == m.before.euid,
-            cleared,
-        ),
-        done(
-            "d: ambient cleared by set-group-ID",
-            move |m, l| m.before.ambient != 0 && in_force(l) && l.set_group_id && !l.set_user_id,
-            cleared,
-        ),
-        done("d: ambient kept", move |m, l| m.before.ambient != 0 && !l.is_privileged(), kept),
-        done(
-            "d: ambient kept where the bounding set lacks it",
-            move |m, l| m.before.ambient & !m.before.bounding != 0 && !l.is_privileged(),
-            kept,
-        ),
-        done(
-            "d: ambient kept for root",
-            move |m, l| m.before.ambient != 0 && !l.is_privileged() && l.effective == 0,
-            kept,
-        ),
-    ]
 }
 
 // e: the new sets, and what stays.
