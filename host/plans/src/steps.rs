@@ -81,17 +81,29 @@ impl Maker {
     }
 
     fn launch(&self, random: &mut Random, step: &mut Step) {
-        step.a = u64::from(self.id(random, Family::Users));
-        step.c = u64::from(self.id(random, Family::Groups));
-        step.b = match random.below(14) {
+        step.a = u64::from(self.file_id(random, Family::Users));
+        step.c = u64::from(self.file_id(random, Family::Groups));
+        step.b = match random.below(16) {
             0..=2 => 0,
             3 | 4 => 1,
             5 | 6 => 2,
-            7..=9 => random.pick(&[4, 5, 6, 8, 9, 10, 16, 17, 18]),
-            10 => 31,
+            7 | 8 => 3,
+            9..=11 => random.pick(&[4, 5, 6, 8, 9, 10, 16, 17, 18]),
+            12 => 31,
             _ => random.below(32) as u64,
         };
         step.attr = attributes::any(random, &self.guess);
+    }
+
+    // The thread's effective ID of that family, which a set-ID bit then does not change; its saved or filesystem one, which are often others; or any.
+    fn file_id(&self, random: &mut Random, family: Family) -> u32 {
+        let [_, effective, saved, filesystem] = family.ids(&self.guess);
+        match random.below(8) {
+            0 | 1 => effective,
+            2 => saved,
+            3 => filesystem,
+            _ => self.id(random, family),
+        }
     }
 
     // P and E mostly shrink; I is taken about what the thread has, and about what it may take from P and from B.

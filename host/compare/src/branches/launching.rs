@@ -123,14 +123,6 @@ impl Launch {
         }
     }
 
-    /// Whether the launch makes the family's effective ID another.
-    fn changes(&self, family: Family) -> bool {
-        match family {
-            Family::Users => self.changes_user,
-            Family::Groups => self.changes_group,
-        }
-    }
-
     fn is_only_by(&self, cause: Cause) -> bool {
         self.causes == [cause]
     }

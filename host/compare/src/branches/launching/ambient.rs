@@ -183,7 +183,9 @@ fn no_bit(family: Family) -> Part {
         ),
         done(
             format!("d: kept though the saved one of the {ids} moves"),
-            move |m, l| m.before.ambient != 0 && !l.is_privileged() && family.ids(&m.before)[SAVED] != effective(m, family),
+            move |m, l| {
+                m.before.ambient != 0 && !l.is_privileged() && family.ids(&m.before)[SAVED] != effective(m, family)
+            },
             is_kept,
         ),
         done(
@@ -209,8 +211,16 @@ fn both_bits() -> Part {
     };
     vec![
         done("d: kept, both set-ID bits change nothing", move |m, l| both(m, l, false, false), is_kept),
-        done("d: emptied, of both set-ID bits the user's changes its ID", move |m, l| both(m, l, true, false), is_emptied),
-        done("d: emptied, of both set-ID bits the group's changes its ID", move |m, l| both(m, l, false, true), is_emptied),
+        done(
+            "d: emptied, of both set-ID bits the user's changes its ID",
+            move |m, l| both(m, l, true, false),
+            is_emptied,
+        ),
+        done(
+            "d: emptied, of both set-ID bits the group's changes its ID",
+            move |m, l| both(m, l, false, true),
+            is_emptied,
+        ),
         done("d: emptied, both set-ID bits change their IDs", move |m, l| both(m, l, true, true), is_emptied),
     ]
 }
@@ -227,7 +237,9 @@ fn kept_by_whom() -> Part {
         done(
             "d: kept for root by its own set-user-ID file, which gives all",
             |m, l| is_alone(m, l, Family::Users) && l.owner == 0 && m.before.euid == 0 && !l.noroot,
-            |m, l| is_kept(m, l) && (m.answer.after.permitted, m.answer.after.effective) == (full_gain(m), full_gain(m)),
+            |m, l| {
+                is_kept(m, l) && (m.answer.after.permitted, m.answer.after.effective) == (full_gain(m), full_gain(m))
+            },
         ),
     ]
 }
