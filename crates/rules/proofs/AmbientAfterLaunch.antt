@@ -1,7 +1,7 @@
 -- What a launch leaves of the ambient set. Assumes nothing.
 use Prim.Native.Nat.{ℕ}
 use mathlib.Core.Path.{_≡_, refl}
-use mathlib.Core.Bool.{Bool, true, false, not, _&&_}
+use mathlib.Core.Bool.{Bool, true, false, cond, not, _&&_, _||_}
 use mathlib.Core.List.{List}
 use lib.Dec.{eqb}
 use lib.ListN.{length}
@@ -63,11 +63,9 @@ module _ (start : Credentials) (owner flags group : ℕ) (s : List ℕ) where
   launched-says : (f : FileCapabilities) → f .attached ≡ attributeCounts (start .nnp) flags s → Says (Done 0 (launched start owner flags group f))
   unfolding launched launchedSets launchedAmbient isPrivileged
   launched-says f e h =
-      simp (
-        e,
-        was-changed (inForce (start .nnp) flags SET-USER-ID) owner (start .uids),
-        was-changed (inForce (start .nnp) flags SET-GROUP-ID) group (start .gids),
-      )
+      let by-user = was-changed (inForce (start .nnp) flags SET-USER-ID) owner (start .uids) in
+      let by-group = was-changed (inForce (start .nnp) flags SET-GROUP-ID) group (start .gids) in
+      λ i. cond (e i || by-user i || by-group i) 0 (start .sets .ambient)
 
   launch-of-says : (r : Reading) → Attached (attributeCounts (start .nnp) flags s) r → Says (launchOf start owner flags group r)
   launch-of-says (File f) e = cond-cases Says (fallsShort (start .sets) f) _ _ (λ t. refused NotPermitted refl) (λ t. launched-says f e)
