@@ -20,10 +20,23 @@ pub struct Output {
     buffers: Vec<Vec<u8>>,
 }
 
-/// One row of the table: what is done, how often it is done in a round, and what there is before it.
+impl Output {
+    /// In how many of the numbers that came back, or in what was lent for them, the two differ.
+    pub fn differing(&self, other: &Output) -> usize {
+        let differs = |k: usize| {
+            self.numbers[k] != other.numbers[k]
+                || self.values.get(k) != other.values.get(k)
+                || self.buffers.get(k) != other.buffers.get(k)
+        };
+        (0..self.numbers.len()).filter(|&k| differs(k)).count()
+    }
+}
+
+/// One row of the table: what is done, how often it is done in a round, whether it makes calls, and what there is before it.
 pub struct Work {
     pub name: String,
     pub units: usize,
+    pub makes_calls: bool,
     pub run: Box<dyn Fn(&Library, &mut Output)>,
     pub output: Output,
 }
@@ -46,6 +59,7 @@ fn read_digits(name: &str, number: fn(u64) -> u64) -> Work {
     Work {
         name: format!("16 digits read, {name}"),
         units: LINES as usize,
+        makes_calls: false,
         output: Output { numbers: vec![u64::MAX], values: Vec::new(), buffers: Vec::new() },
         run: Box::new(move |library, output| output.numbers[0] = library.read_digits(&text, LINES)),
     }
@@ -56,6 +70,7 @@ fn write_digits(name: &str, number: fn(u64) -> u64) -> Work {
     Work {
         name: format!("16 digits written, {name}"),
         units: values.len(),
+        makes_calls: false,
         output: Output { numbers: vec![0], values: Vec::new(), buffers: vec![vec![0; values.len() * LINE]] },
         run: Box::new(move |library, output| {
             output.numbers[0] = library.write_digits(&values, &mut output.buffers[0]);
@@ -73,6 +88,7 @@ fn read_sheet() -> Work {
     Work {
         name: "a sheet read".into(),
         units: sheets.len(),
+        makes_calls: false,
         output: Output {
             numbers: vec![0; sheets.len()],
             values: vec![[u64::MAX; SHEET_VALUES]; sheets.len()],
@@ -92,6 +108,7 @@ fn write_sheet() -> Work {
     Work {
         name: "a sheet written".into(),
         units: values.len(),
+        makes_calls: false,
         output: Output {
             numbers: vec![0; values.len()],
             values: Vec::new(),
@@ -118,6 +135,7 @@ fn plans(kind: Kind, steps: usize) -> Work {
     Work {
         name: format!("a {kind} plan of {steps} step{}", if steps == 1 { "" } else { "s" }),
         units: plans.len(),
+        makes_calls: matches!(kind, Kind::WellFormed) && steps > 0,
         output: Output {
             numbers: vec![0; plans.len()],
             values: Vec::new(),
@@ -145,4 +163,20 @@ pub fn all() -> Vec<Work> {
         all.extend(STEPS.map(|steps| plans(kind, steps)));
     }
     all
+}
+
+#[cfg(test)]
+mod tests {
+    use super::*;
+
+    #[test]
+    fn what_differs_is_counted_once() {
+        let output = Output { numbers: vec![1, 2, 3], values: Vec::new(), buffers: vec![vec![0; 2]; 3] };
+        assert_eq!(output.differing(&output), 0);
+        let mut other = output.clone();
+        other.buffers[1][1] = 1;
+        other.numbers[1] = 9;
+        other.buffers[2][0] = 1;
+        assert_eq!(output.differing(&other), 2);
+    }
 }
