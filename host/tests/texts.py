@@ -479,9 +479,18 @@ add("launch-owner-and-group", SHEET + step(1, a="00000000000003e9", b="000000000
     "both bits in force: the owner's three user IDs and the file's three groups")
 add("launch-file-group-0", SHEET + step(1, b="0000000000000002"), rep([(0, 0)], S(egid="0", sgid="0", fsgid="0")),
     "c 0 is group 0; a group 0 gives no capability")
-add("launch-file-group-own", S(permitted=RAW, inheritable=RAW, effective=RAW, ambient=RAW)
-    + step(1, b="0000000000000002", c="00000000000003e8"), rep([(0, 0)], S(inheritable=RAW)),
-    "the group is 1000 already; the file is privileged all the same: A empty, and so P and E")
+KEPT = dict(permitted=RAW, inheritable=RAW, effective=RAW, ambient=RAW)
+add("launch-file-group-own", S(**KEPT) + step(1, b="0000000000000002", c="00000000000003e8"), rep([(0, 0)], S(**KEPT)),
+    "the group is 1000 already: the bit changes no ID, A stays, and so P and E")
+add("launch-file-group-other", S(**KEPT) + step(1, b="0000000000000002", c="0000000000000007"),
+    rep([(0, 0)], S(inheritable=RAW, egid="7", sgid="7", fsgid="7")), "the bit changes the effective group: A empty, and so P and E")
+add("launch-owner-own", S(**KEPT) + step(1, a="00000000000003e8", b="0000000000000001"), rep([(0, 0)], S(**KEPT)),
+    "as case 2, set-user-ID, owner 1000: the bit changes no ID, all as in case 2")
+add("launch-owner-other", S(**KEPT) + step(1, a="00000000000003e9", b="0000000000000001"),
+    rep([(0, 0)], S(inheritable=RAW, euid="1001", suid="1001", fsuid="1001")),
+    "as case 2, set-user-ID, owner 1001: A empty, so P and E empty; effective, saved and filesystem ID 1001")
+add("launch-owner-real", S(euid="1001", **KEPT) + step(1, a="00000000000003e8", b="0000000000000001"), rep([(0, 0)], S(inheritable=RAW)),
+    "the owner is the real ID; the effective one was 1001: A empty, and the effective ID is 1000")
 add("launch-file-group-4294967294", SHEET + step(1, b="0000000000000002", c="00000000fffffffe"),
     rep([(0, 0)], S(egid="4294967294", sgid="4294967294", fsgid="4294967294")), "the greatest group")
 add("launch-file-group-4294967295", GROUPS + step(1, b="0000000000000002", c=LEAVE) + step(1, c=LEAVE), rep([(22, 0), (22, 0)], GROUPS),
