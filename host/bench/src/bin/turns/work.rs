@@ -32,12 +32,14 @@ impl Output {
     }
 }
 
+type Run = Box<dyn Fn(&Library, &mut Output)>;
+
 /// One row of the table: what is done, how often it is done in a round, whether it makes calls, and what there is before it.
 pub struct Work {
     pub name: String,
     pub units: usize,
     pub makes_calls: bool,
-    pub run: Box<dyn Fn(&Library, &mut Output)>,
+    pub run: Run,
     pub output: Output,
 }
 
