@@ -25,7 +25,7 @@ use Rattle.rules.specs.declared.Call.the-variants.{Setuid, Setreuid, Set
 use Rattle.rules.specs.declared.Decoded.{Decoded}
 use Rattle.rules.specs.declared.NewIds.{NewIds}
 use Rattle.rules.specs.declared.NewIds.the-variants.{Allowed, NotAllowed}
-use Rattle.rules.proofs.Conditions.{cond-cases}
+use Rattle.rules.proofs.OneCall.{answered}
 
 -- ---- one of four numbers
 
@@ -57,19 +57,6 @@ record GroupIdsOnly (c d : Credentials) : Type 0 where
   securebits : d .securebits ≡ c .securebits
   nnp : d .nnp ≡ c .nnp
 
--- what a call leaves, if it holds of the given credentials and of those after the call's own rules
-module _ (P : Credentials → Type 0) (c : Credentials) (p : P c) where
-  abbrev Leaves : Answer → Type 0
-  Leaves r = P (after c r)
-
-  leaves : (number x y z : ℕ) (s : List ℕ) (right : Bool) (k : Call) → decode number x y z (length s) ≡ known right k → Leaves (performed c s k)
-      → Leaves (answer c number x y z s)
-  unfolding answer known
-  leaves number x y z s right k e h =
-      cond-cases Leaves (valid c) _ _
-      (λ v. subst (λ (d : Decoded). Leaves (decoded c s d)) (sym e) (cond-cases (λ (d : Decoded). Leaves (decoded c s d)) right _ _ (λ r. h) (λ r. p)))
-      (λ v. p)
-
 module _ (c : Credentials) where
   abbrev same : GroupIdsOnly c c
   same = record { sets = refl; uids = refl; securebits = refl; nnp = refl }
@@ -94,23 +81,24 @@ module _ (c : Credentials) where
     on-group-ids : (number : ℕ) → 19 ≤ number → number ≤ 22 → GroupIdsOnly c (after c (answer c number x y z s))
     unfolding decode setgid setregid setresgid setfsgid
     on-group-ids =
+        let P : Answer → Type 0 = λ r. GroupIdsOnly c (after c r) in
         let any = maySetAnyGroupId c in
-        one-of-four (λ number. GroupIdsOnly c (after c (answer c number x y z s))) 19
-        (leaves (GroupIdsOnly c) c same 19 x y z s _ (Setgid x) refl (group-ids-only (setuidOn any (c .gids) x)))
-        (leaves (GroupIdsOnly c) c same 20 x y z s _ (Setregid x y) refl (group-ids-only (setreuidOn any (c .gids) x y)))
-        (leaves (GroupIdsOnly c) c same 21 x y z s _ (Setresgid x y z) refl (group-ids-only (setresuidOn any (c .gids) x y z)))
-        (leaves (GroupIdsOnly c) c same 22 x y z s _ (Setfsgid x) refl (filesystem-group-id-only (setfsuidOn any (c .gids) x)))
+        one-of-four (λ number. P (answer c number x y z s)) 19
+        (answered P c same same 19 x y z s _ (Setgid x) refl (group-ids-only (setuidOn any (c .gids) x)))
+        (answered P c same same 20 x y z s _ (Setregid x y) refl (group-ids-only (setreuidOn any (c .gids) x y)))
+        (answered P c same same 21 x y z s _ (Setresgid x y z) refl (group-ids-only (setresuidOn any (c .gids) x y z)))
+        (answered P c same same 22 x y z s _ (Setfsgid x) refl (filesystem-group-id-only (setfsuidOn any (c .gids) x)))
 
     on-user-ids : (number : ℕ) → 15 ≤ number → number ≤ 18 → after c (answer c number x y z s) .gids ≡ c .gids
     unfolding decode setuid setreuid setresuid setfsuid
     on-user-ids =
-        let P : Credentials → Type 0 = λ d. d .gids ≡ c .gids in
+        let P : Answer → Type 0 = λ r. after c r .gids ≡ c .gids in
         let any = maySetAnyUserId c in
-        one-of-four (λ number. P (after c (answer c number x y z s))) 15
-        (leaves P c refl 15 x y z s _ (Setuid x) refl (no-group-id (setuidOn any (c .uids) x)))
-        (leaves P c refl 16 x y z s _ (Setreuid x y) refl (no-group-id (setreuidOn any (c .uids) x y)))
-        (leaves P c refl 17 x y z s _ (Setresuid x y z) refl (no-group-id (setresuidOn any (c .uids) x y z)))
-        (leaves P c refl 18 x y z s _ (Setfsuid x) refl (no-filesystem-group-id (setfsuidOn any (c .uids) x)))
+        one-of-four (λ number. P (answer c number x y z s)) 15
+        (answered P c refl refl 15 x y z s _ (Setuid x) refl (no-group-id (setuidOn any (c .uids) x)))
+        (answered P c refl refl 16 x y z s _ (Setreuid x y) refl (no-group-id (setreuidOn any (c .uids) x y)))
+        (answered P c refl refl 17 x y z s _ (Setresuid x y z) refl (no-group-id (setresuidOn any (c .uids) x y z)))
+        (answered P c refl refl 18 x y z s _ (Setfsuid x) refl (no-filesystem-group-id (setfsuidOn any (c .uids) x)))
 
 -- ---- the counterpart
 

@@ -1,5 +1,6 @@
 pub mod Cases
 pub mod Conditions
+pub mod OneCall
 pub mod Corresponding
 pub mod FilesystemId
 pub mod KeptIds
@@ -9,4 +10,4 @@ pub mod KeptCalls
 pub mod OneLaunch
 pub mod Demand3
 pub mod Flags
-pub mod AmbientAfterLaunch
+pub mod LaunchedAmbient

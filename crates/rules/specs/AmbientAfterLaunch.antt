@@ -1,5 +1,5 @@
 -- What a launch leaves of the ambient set ("Ambient lost too easily"): one statement, AmbientAfterLaunch, at the end. Proved in
--- proofs/AmbientAfterLaunch.antt. Assumes nothing.
+-- proofs/LaunchedAmbient.antt. Assumes nothing.
 use Prim.Native.Nat.{ℕ}
 use mathlib.Core.Path.{_≡_}
 use mathlib.Core.Bool.{Bool, cond, not, _&&_, _||_}

@@ -10,19 +10,19 @@ use Rattle.attribute.specs.Reader.{fileOf, reading, revision, unreadable, versi
 use Rattle.attribute.specs.declared.FileCapabilities.{FileCapabilities}
 use Rattle.attribute.specs.declared.Reading.{Reading}
 use Rattle.attribute.specs.declared.Reading.the-variants.{File, Unreadable}
-use Rattle.credentials.specs.Validity.{idInRange, valid}
 use Rattle.credentials.specs.declared.Ids.{Ids}
 use Rattle.credentials.specs.declared.Credentials.{Credentials}
 use Rattle.rules.specs.Answers.{after, code}
 use Rattle.rules.specs.Launching.{SET-GROUP-ID, SET-USER-ID, changesEffective, effectiveId, fallsShort, fileRead, ignoresAttribute, inForce, isPrivileged, launch, launched, launchedAmbient, launchedIds, launchedSets, launchOf}
-use Rattle.rules.specs.Decoding.{decode, flagsInRange, known}
-use Rattle.rules.specs.Call.{answer, decoded}
+use Rattle.rules.specs.Decoding.{decode}
+use Rattle.rules.specs.Call.{answer}
 use Rattle.rules.specs.Run.{result}
 use Rattle.rules.specs.AmbientAfterLaunch.{AmbientAfterLaunch, ambientAfter, attributeCounts, wasChanged}
 use Rattle.rules.specs.declared.Answer.{Answer}
 use Rattle.rules.specs.declared.Answer.the-variants.{Done, InvalidArgument, InvalidCredentials, NotPermitted, UnreadableAttribute}
 use Rattle.rules.specs.declared.Call.the-variants.{Execve}
 use Rattle.rules.proofs.Conditions.{cond-cases, cond-with}
+use Rattle.rules.proofs.OneCall.{answered}
 
 -- ---- an attribute counts where one is attached to the file as it was read
 
@@ -71,17 +71,11 @@ module _ (start : Credentials) (owner flags group : ℕ) (s : List ℕ) where
   launch-of-says (File f) e = cond-cases Says (fallsShort (start .sets) f) _ _ (λ t. refused NotPermitted refl) (λ t. launched-says f e)
   launch-of-says Unreadable e = refused UnreadableAttribute refl
 
-  decoded-says : (right : Bool) → Says (decoded start s (known right (Execve owner flags group)))
-  unfolding known launch
-  decoded-says true = launch-of-says (fileRead (start .nnp) flags s) (attached-counts (start .nnp) flags s)
-  decoded-says false = refused InvalidArgument refl
-
   answer-says : Says (answer start 1 owner flags group s)
-  unfolding answer decode
+  unfolding decode launch
   answer-says =
-      cond-cases Says (valid start) _ _
-      (λ v. decoded-says (idInRange owner && flagsInRange flags && idInRange group))
-      (λ v. refused InvalidCredentials refl)
+      answered Says start (refused InvalidCredentials refl) (refused InvalidArgument refl) 1 owner flags group s _ (Execve owner flags group) refl
+      (launch-of-says (fileRead (start .nnp) flags s) (attached-counts (start .nnp) flags s))
 
 pub ambient-after-launch : AmbientAfterLaunch
 unfolding result
