@@ -88,10 +88,15 @@ fn launched(
 ) -> Credentials
     ensures { λ r. ⌜ r ≡ launched start owner flags group file ⌝ }
 {
-    let uids = launched_ids(in_force(start.nnp, flags, SET_USER_ID), owner, start.uids);
-    let gids = launched_ids(in_force(start.nnp, flags, SET_GROUP_ID), group, start.gids);
+    let by_owner = in_force(start.nnp, flags, SET_USER_ID);
+    let by_group = in_force(start.nnp, flags, SET_GROUP_ID);
+    let uids = launched_ids(by_owner, owner, start.uids);
+    let gids = launched_ids(by_group, group, start.gids);
     let counts = counted(start.securebits, uids, file);
-    let ambient = launched_ambient(start, owner, flags, group, file);
+    let changes_user = changes_effective(by_owner, owner, start.uids);
+    let changes_group = changes_effective(by_group, group, start.gids);
+    let privileged = file.attached | changes_user | changes_group;
+    let ambient = launched_ambient(privileged, start.sets.ambient);
     let mut next = start;
     next.uids = uids;
     next.gids = gids;
@@ -156,29 +161,21 @@ fn root_counts(securebits: u64, uids: Ids, file: FileCapabilities) -> bool
     !(securebits & SECBIT_NOROOT != 0) & !keeps_own
 }
 
-// Launching, d: the ambient set, which a file empties whose attribute counts, or that has a set-ID bit that counts, each asked of its own ID.
-fn launched_ambient(
-    start: Credentials,
-    owner: u64,
-    flags: u64,
-    group: u64,
-    file: FileCapabilities,
-) -> u64
-    ensures { λ r. ⌜ r ≡ launchedAmbient start owner flags group file ⌝ }
-{
-    let by_owner = changes_effective(in_force(start.nnp, flags, SET_USER_ID), owner, start.uids);
-    let by_group = changes_effective(in_force(start.nnp, flags, SET_GROUP_ID), group, start.gids);
-    if file.attached | by_owner | by_group {
-        return 0;
-    }
-    start.sets.ambient
-}
-
 // Launching, d: whether a set-ID bit counts: in force, it makes the effective ID differ from what it was.
 fn changes_effective(force: bool, id: u64, old: Ids) -> bool
     ensures { λ r. ⌜ r ≡ changesEffective force id old ⌝ }
 {
     force & (id != old.effective)
+}
+
+// Launching, d: the ambient set, which a privileged file empties: one whose attribute counts, or a set-ID bit of it.
+fn launched_ambient(privileged: bool, ambient: u64) -> u64
+    ensures { λ r. ⌜ r ≡ launchedAmbient privileged ambient ⌝ }
+{
+    if privileged {
+        return 0;
+    }
+    ambient
 }
 
 // Launching, e and f: what a file gives a thread with these sets.

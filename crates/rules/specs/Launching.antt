@@ -108,8 +108,8 @@ isPrivileged c owner flags group f =
     || changesEffective (inForce (c .nnp) flags SET-GROUP-ID) group (c .gids)
 
 -- d: such a file empties the ambient set
-unfoldable pub launchedAmbient : Credentials → ℕ → ℕ → ℕ → FileCapabilities → ℕ
-launchedAmbient c owner flags group f = cond (isPrivileged c owner flags group f) 0 (c .sets .ambient)
+unfoldable pub launchedAmbient : Bool → ℕ → ℕ
+launchedAmbient privileged a = cond privileged 0 a
 
 -- e and f: what a file gives: what is inheritable in both, and what it permits within the bounding set
 unfoldable pub gained : Sets → FileCapabilities → ℕ
@@ -147,7 +147,7 @@ unfoldable pub launched : Credentials → ℕ → ℕ → ℕ → FileCapabiliti
 launched c owner flags group f =
     let u : Ids = launchedUids c owner flags in
     let g : Ids = launchedGids c flags group in
-    let a : ℕ = launchedAmbient c owner flags group f in
+    let a : ℕ = launchedAmbient (isPrivileged c owner flags group f) (c .sets .ambient) in
     withSecurebits (withSets (withGids (withUids c u) g) (launchedSets (c .sets) (counted (c .securebits) u f) a)) (launchedSecurebits (c .securebits))
 
 -- the launch of a file that was read: 60 where it could not be, then 1 by f
