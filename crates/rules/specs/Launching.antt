@@ -44,7 +44,7 @@ ignoresAttribute nnp flags = ignoresSetId nnp flags || isSet flags NO-FILE-CAPS
 unfoldable pub fileRead : Bool → ℕ → List ℕ → Reading
 fileRead nnp flags attribute = cond (ignoresAttribute nnp flags) (File noneAttached) (reading attribute)
 
--- b: a set-ID bit, by its value, is in force where it is set and not ignored
+-- b: a set-ID bit, by its value, is in force where it is set and not ignored, also where it then changes nothing
 unfoldable pub inForce : Bool → ℕ → ℕ → Bool
 inForce nnp flags bit = isSet flags bit && not (ignoresSetId nnp flags)
 
@@ -96,7 +96,7 @@ counted securebits u f =
       effective = countedBit securebits u f;
     }
 
--- d: a set-ID bit counts where it is in force and makes the effective ID differ from what it was ("Ambient lost too easily")
+-- d: a set-ID bit counts where it is in force and makes the effective ID differ from what it was before the launch ("Ambient lost too easily")
 unfoldable pub changesEffective : Bool → ℕ → Ids → Bool
 changesEffective force id u = force && not (eqb id (u .effective))
 

@@ -45,10 +45,8 @@ pub struct Launch {
     effective: u32,
     /// The effective group ID after b.
     effective_group: u32,
-    /// Whether b makes the effective user ID another.
-    changes_user: bool,
-    /// Whether b makes the effective group ID another.
-    changes_group: bool,
+    /// Whether b makes one of the two another.
+    changes_effective: bool,
     noroot: bool,
 }
 
@@ -73,8 +71,7 @@ impl Launch {
             real: before.ruid,
             effective: before.euid,
             effective_group: before.egid,
-            changes_user: false,
-            changes_group: false,
+            changes_effective: false,
             noroot: before.securebits & NOROOT != 0,
         };
         if let Reading::File(file) = launch.reading {
@@ -87,8 +84,7 @@ impl Launch {
         if launch.is_in_force(Family::Groups) {
             launch.effective_group = launch.group;
         }
-        launch.changes_user = launch.effective != before.euid;
-        launch.changes_group = launch.effective_group != before.egid;
+        launch.changes_effective = launch.effective != before.euid || launch.effective_group != before.egid;
         launch
     }
 
@@ -147,7 +143,7 @@ impl Launch {
 
     /// d: by an attribute that is not ignored, or by a set-ID bit in force that makes its effective ID another.
     fn is_privileged(&self) -> bool {
-        self.file.is_some() || self.changes_user || self.changes_group
+        self.file.is_some() || self.changes_effective
     }
 }
 

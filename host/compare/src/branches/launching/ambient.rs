@@ -35,13 +35,23 @@ fn is_kept(m: &Moment, _: &Launch) -> bool {
     after.ambient == ambient && is_within(ambient, after.permitted) && is_within(ambient, after.effective)
 }
 
-// There is an ambient set to lose, and of all that could empty it the one bit alone is in force.
+// There is an ambient set to lose, and of the two bits the one alone is in force.
+fn is_one_bit(m: &Moment, l: &Launch, family: Family) -> bool {
+    m.before.ambient != 0 && l.is_in_force(family) && !l.has_bit_of(family.other())
+}
+
+// The same, and no attribute counts.
 fn is_alone(m: &Moment, l: &Launch, family: Family) -> bool {
-    m.before.ambient != 0 && l.file.is_none() && l.is_in_force(family) && !l.has_bit_of(family.other())
+    is_one_bit(m, l, family) && l.file.is_none()
 }
 
 fn effective(m: &Moment, family: Family) -> u32 {
     family.ids(&m.before)[EFFECTIVE]
+}
+
+// The file's ID is the thread's effective one: its bit would change nothing.
+fn is_own(m: &Moment, l: &Launch, family: Family) -> bool {
+    l.file_id(family) == effective(m, family)
 }
 
 fn attribute() -> Part {
@@ -59,28 +69,26 @@ fn attribute() -> Part {
 
 fn one_bit(family: Family) -> Part {
     let bit = bit(family);
-    let beside = move |m: &Moment, l: &Launch| {
-        m.before.ambient != 0 && l.file.is_some() && l.is_in_force(family) && !l.has_bit_of(family.other())
-    };
+    let beside = move |m: &Moment, l: &Launch| is_one_bit(m, l, family) && l.file.is_some();
     vec![
         done(
             format!("d: emptied by {bit} that makes the ID another"),
-            move |m, l| is_alone(m, l, family) && l.file_id(family) != effective(m, family),
+            move |m, l| is_alone(m, l, family) && !is_own(m, l, family),
             is_emptied,
         ),
         done(
             format!("d: kept, {bit} changes nothing"),
-            move |m, l| is_alone(m, l, family) && l.file_id(family) == effective(m, family),
+            move |m, l| is_alone(m, l, family) && is_own(m, l, family),
             is_kept,
         ),
         done(
             format!("d: emptied by an attribute, {bit} changes nothing"),
-            move |m, l| beside(m, l) && l.file_id(family) == effective(m, family),
+            move |m, l| beside(m, l) && is_own(m, l, family),
             is_emptied,
         ),
         done(
             format!("d: emptied by {bit} and by an attribute"),
-            move |m, l| beside(m, l) && l.file_id(family) != effective(m, family),
+            move |m, l| beside(m, l) && !is_own(m, l, family),
             is_emptied,
         ),
     ]
@@ -108,26 +116,25 @@ fn own_ids(family: Family) -> Part {
 // Each bit is asked of its own ID, and not of the other family's; nor is the other's file ID asked of this one.
 fn other_family(family: Family) -> Part {
     let (bit, other) = (bit(family), family.other());
-    let is_own = move |m: &Moment, l: &Launch| l.file_id(family) == effective(m, family);
     vec![
         done(
             format!("d: emptied by {bit} for the effective one of the {}", other.ids_name()),
-            move |m, l| is_alone(m, l, family) && l.file_id(family) == effective(m, other) && !is_own(m, l),
+            move |m, l| is_alone(m, l, family) && l.file_id(family) == effective(m, other) && !is_own(m, l, family),
             is_emptied,
         ),
         done(
             format!("d: kept, {bit} for its own effective ID, not that of the {}", other.ids_name()),
-            move |m, l| is_alone(m, l, family) && l.file_id(family) != effective(m, other) && is_own(m, l),
+            move |m, l| is_alone(m, l, family) && l.file_id(family) != effective(m, other) && is_own(m, l, family),
             is_kept,
         ),
         done(
             format!("d: emptied by {bit}, the file's other ID is the thread's"),
-            move |m, l| is_alone(m, l, family) && l.file_id(other) == effective(m, other) && !is_own(m, l),
+            move |m, l| is_alone(m, l, family) && is_own(m, l, other) && !is_own(m, l, family),
             is_emptied,
         ),
         done(
             format!("d: kept, {bit} changes nothing, the file's other ID is another"),
-            move |m, l| is_alone(m, l, family) && l.file_id(other) != effective(m, other) && is_own(m, l),
+            move |m, l| is_alone(m, l, family) && !is_own(m, l, other) && is_own(m, l, family),
             is_kept,
         ),
     ]
@@ -136,9 +143,8 @@ fn other_family(family: Family) -> Part {
 // In force or not: three causes ignore the bit, and no_file_caps does not.
 fn ignored(family: Family) -> Part {
     let bit = bit(family);
-    let would_change = move |m: &Moment, l: &Launch| {
-        m.before.ambient != 0 && l.has_bit_of(family) && l.file_id(family) != effective(m, family)
-    };
+    let would_change =
+        move |m: &Moment, l: &Launch| m.before.ambient != 0 && l.has_bit_of(family) && !is_own(m, l, family);
     let mut rows = Vec::new();
     for (cause, name) in [(Cause::NoNewPrivs, "no-new-privs"), (Cause::Nosuid, "nosuid"), (Cause::Traced, "traced")] {
         rows.push(done(
@@ -148,12 +154,7 @@ fn ignored(family: Family) -> Part {
         ));
         rows.push(done(
             format!("d: kept, {bit} ignored by {name} would change nothing"),
-            move |m, l| {
-                l.is_only_by(cause)
-                    && m.before.ambient != 0
-                    && l.has_bit_of(family)
-                    && l.file_id(family) == effective(m, family)
-            },
+            move |m, l| l.is_only_by(cause) && m.before.ambient != 0 && l.has_bit_of(family) && is_own(m, l, family),
             is_kept,
         ));
     }
@@ -177,7 +178,7 @@ fn no_bit(family: Family) -> Part {
             format!("d: kept without a set-ID bit, the file's of the {ids} is another"),
             move |m, l| {
                 let bits = l.has_bit_of(family) || l.has_bit_of(family.other());
-                m.before.ambient != 0 && l.file.is_none() && !bits && l.file_id(family) != effective(m, family)
+                m.before.ambient != 0 && l.file.is_none() && !bits && !is_own(m, l, family)
             },
             is_kept,
         ),
@@ -202,7 +203,7 @@ fn no_bit(family: Family) -> Part {
 fn both_bits() -> Part {
     let both = |m: &Moment, l: &Launch, user: bool, group: bool| {
         let in_force = l.is_in_force(Family::Users) && l.is_in_force(Family::Groups);
-        let is_so = |family, changes| (l.file_id(family) != effective(m, family)) == changes;
+        let is_so = |family, changes| is_own(m, l, family) != changes;
         m.before.ambient != 0
             && l.file.is_none()
             && in_force
