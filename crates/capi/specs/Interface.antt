@@ -1,9 +1,9 @@
--- What the readers and writers of sheets and attributes give across the C interface: one number, and what a lent buffer holds afterwards.
+-- What the readers and writers of sheets, attributes and sets in names give across the C interface: one number, and what a lent buffer holds afterwards.
 -- Assumes nothing.
 use Prim.Native.Nat.{ℕ, _+_, _*_}
 use mathlib.Core.Bool.{Bool, cond, _&&_}
 use mathlib.Core.List.{List, [], _∷_, _++_}
-use lib.Dec.{eqb, leb}
+use lib.Dec.{eqb, leb, ltb}
 use lib.ListN.{length, getD, drop}
 use Rattle.attribute.specs.Writer.{refused, written, bufferAfter}
 use Rattle.attribute.specs.declared.FileCapabilities.{FileCapabilities}
@@ -11,11 +11,15 @@ use Rattle.attribute.specs.declared.Reading.{Reading}
 use Rattle.attribute.specs.declared.Reading.the-variants.{File, Unreadable}
 use Rattle.attribute.specs.declared.Written.{Written}
 use Rattle.rules.specs.Fields.{number}
+use Rattle.names.specs.declared.Sets.{Sets}
+use Rattle.names.specs.declared.Reading as N
+use Rattle.names.specs.declared.Reading.the-variants.{Means}
+use Rattle.names.specs.declared.Reading.the-variants as NV
 use Rattle.format.specs.declared.SheetReading.{SheetReading}
 use Rattle.format.specs.declared.SheetReading.the-variants.{Sheet, Malformed, Invalid}
 use Rattle.format.specs.Sheet.{sheetKinds, sheetValues, credentialsOf, sheetAnswer, sheetBuffer}
 
--- the number that comes back: the code times 4294967296, and a line, a length or a count
+-- the number that comes back: the code times 4294967296, and a line, a place, a length or a count
 unfoldable pub joined : ℕ → ℕ → ℕ
 joined code low = code * 4294967296 + low
 
@@ -78,3 +82,25 @@ bitWritten p i e room = cond (leb e 1) (written p i room) (refused 22)
 
 unfoldable pub bitBuffer : ℕ → ℕ → ℕ → List ℕ → List ℕ
 bitBuffer p i e old = cond (leb e 1) (bufferAfter p i (eqb e 1) old) old
+
+-- ---- sets in names
+
+-- three sets of numbers, and the numbers of three sets: permitted, inheritable, effective
+abbrev pub namedSets : ℕ → ℕ → ℕ → Sets
+namedSets p i e = record { permitted = p; inheritable = i; effective = e }
+
+abbrev pub namedValues : Sets → List ℕ
+namedValues s = s .permitted ∷ s .inheritable ∷ s .effective ∷ []
+
+-- a place in the number's low half, which ends at 4294967295: that for any further place, too
+unfoldable pub lowPlace : ℕ → ℕ
+lowPlace place = cond (ltb place 4294967295) place 4294967295
+
+-- the reader: 70 with its place, then 28; done, the three sets
+abbrev pub namesNumber : N.Reading → ℕ → ℕ
+namesNumber (Means s) room = givenNumber (namedValues s) room
+namesNumber (NV.Malformed place) room = joined 70 (lowPlace place)
+
+abbrev pub namesGiven : N.Reading → List ℕ → List ℕ
+namesGiven (Means s) old = givenIn (namedValues s) old
+namesGiven (NV.Malformed place) old = old

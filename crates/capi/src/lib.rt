@@ -1,7 +1,7 @@
-// The C interface, on byte slices and numbers, a number back: the plan runner, and the readers and writers of sheets and attributes.
+// The C interface, on byte slices and numbers, a number back: the plan runner, and the readers and writers of sheets, attributes and sets in names.
 //
 // In C a slice is a pointer and a length. No two slices of a call may overlap; any may be empty. The number is the code times 4294967296, plus a line,
-// a length or a count. What a reader gives are 64-bit numbers, in a slice that the caller lends. The crate assumes nothing.
+// a place, a length or a count. What a reader gives are 64-bit numbers, in a slice that the caller lends. The crate assumes nothing.
 ghost use mathlib.Core.Path.{_≡_};
 ghost use mathlib.Core.List.{_++_};
 ghost use Prim.Native.Nat.{_≤_};
@@ -9,12 +9,15 @@ ghost use lib.ListN.{length, drop};
 ghost use Rattle.attribute.specs.Reader.{reading};
 ghost use Rattle.format.specs.Sheet.{credentialsOf, readSheet, sheetValues};
 ghost use Rattle.format.specs.Report.{verdict, outcome, buffer, cNumber};
-ghost use Rattle.capi.specs.Interface.{areValues, bitBuffer, bitWritten, fileGiven, fileNumber, fileValues, joined, sheetGiven, sheetNumber, valuesBuffer, valuesWritten, writtenNumber};
+ghost use Rattle.names.specs.Reading.{readText};
+ghost use Rattle.names.specs.Writing.{namesAnswer, namesBuffer};
+ghost use Rattle.capi.specs.Interface.{areValues, bitBuffer, bitWritten, fileGiven, fileNumber, fileValues, givenIn, givenNumber, joined, lowPlace, namedSets, namedValues, namesGiven, namesNumber, sheetGiven, sheetNumber, valuesBuffer, valuesWritten, writtenNumber};
 use attribute::FileCapabilities;
 use attribute::Reading;
 use codes::DONE;
 use codes::INVALID_ARGUMENT;
 use codes::INVALID_CREDENTIALS;
+use codes::MALFORMED;
 use codes::NO_ROOM;
 use credentials::Credentials;
 use credentials::Ids;
@@ -24,10 +27,15 @@ use format::SheetReading;
 // The place of the code in the number.
 const CODE: u64 = 0x1_0000_0000;
 
-// How many numbers a sheet has, and a file's capabilities.
+// How many numbers a sheet has, a file's capabilities, and the sets that a text in names stands for.
 const SHEET_VALUES: usize = 15;
 
 const FILE_VALUES: usize = 4;
+
+const NAMED_VALUES: usize = 3;
+
+// The largest place that the number has room for.
+const LARGEST_PLACE: usize = 0xffff_ffff;
 
 // Runs the plan and writes its report at the front of the buffer: the code times 4294967296, plus the line of a fault (70) or the report's length
 // (0). A plan that is refused leaves the buffer as it was.
@@ -110,7 +118,39 @@ pub extern "C" fn urrezkalu_write_attribute(
     joined(INVALID_ARGUMENT, 0)
 }
 
-// The number of a code and a line, a length or a count.
+// Reads a text in names: 70 with the place at which it is malformed, 28 where values is shorter than three, and in both cases values stays; else
+// 3, and the first three of values are the permitted, the inheritable and the effective set. A place above 4294967295 is given as 4294967295.
+#[no_mangle]
+pub extern "C" fn urrezkalu_read_names(text: &[u8], values: &mut [u64]) -> u64
+    ensures { λ r. ⌜ (r ≡ namesNumber (readText (now (text .entry))) (length (now (values .entry)))) × (now (values .exit) ≡ namesGiven (readText (now (text .entry))) (now (values .entry))) ⌝ }
+{
+    match names_reader::read_names(text) {
+        names::Reading::Malformed(place) => joined(MALFORMED, low_place(place)),
+        names::Reading::Means(held) => give_names(values, held),
+    }
+}
+
+// Writes three sets in names at the front of the buffer: 22 where a set has a bit above 40, then 28 where the text is longer than the buffer, and in
+// both cases nothing is written; else the text's length.
+#[no_mangle]
+pub extern "C" fn urrezkalu_write_names(
+    permitted: u64,
+    inheritable: u64,
+    effective: u64,
+    text: &mut [u8],
+) -> u64
+    ensures { λ r. ⌜ (r ≡ writtenNumber (namesAnswer (namedSets permitted inheritable effective) (length (now (text .entry))))) × (now (text .exit) ≡ namesBuffer (namedSets permitted inheritable effective) (now (text .entry))) ⌝ }
+{
+    let held = names::Sets {
+        permitted,
+        inheritable,
+        effective,
+    };
+    let written = names_writer::write_names(held, text);
+    joined(written.code, written.length)
+}
+
+// The number of a code and a line, a place, a length or a count.
 fn joined(code: u8, low: u32) -> u64
     ensures { λ r. ⌜ r ≡ joined code low ⌝ }
 {
@@ -191,4 +231,27 @@ fn put_file(values: &mut [u64], file: FileCapabilities)
     values[1] = file.permitted;
     values[2] = file.inheritable;
     values[3] = file.effective as u64;
+}
+
+// Three sets as numbers, at the front of values: 28 where there is no room for them, else how many they are.
+fn give_names(values: &mut [u64], held: names::Sets) -> u64
+    ensures { λ r. ⌜ (r ≡ givenNumber (namedValues held) (length (now (values .entry)))) × (now (values .exit) ≡ givenIn (namedValues held) (now (values .entry))) ⌝ }
+{
+    if values.len() < NAMED_VALUES {
+        return joined(NO_ROOM, 0);
+    }
+    values[0] = held.permitted;
+    values[1] = held.inheritable;
+    values[2] = held.effective;
+    joined(DONE, NAMED_VALUES as u32)
+}
+
+// A place as the number has it: the largest that it has room for, where it has none for the place.
+fn low_place(place: usize) -> u32
+    ensures { λ r. ⌜ r ≡ lowPlace place ⌝ }
+{
+    if place < LARGEST_PLACE {
+        return place as u32;
+    }
+    LARGEST_PLACE as u32
 }

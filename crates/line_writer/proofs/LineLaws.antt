@@ -73,7 +73,7 @@ put-keyed key value l at p q hp hq =
     sym (sets-append key (value ++ bytes "\n") l at ∙ rw (← hp) (sets-append value (bytes "\n") (sets l at key) p ∙ rw (← hq)))
 
 -- a text that does not fit
-text-refused : (t old : List ℕ) (at : ℕ) → length old < at + length t → (at ≡ writtenTo old at t) × (old ≡ written old at t)
+pub text-refused : (t old : List ℕ) (at : ℕ) → length old < at + length t → (at ≡ writtenTo old at t) × (old ≡ written old at t)
 unfolding written writtenTo
 text-refused t old at h = rw (lt-leb (at + length t) (length old) h) (refl, refl)
 
@@ -95,7 +95,7 @@ module _ (key value old : List ℕ) (at : ℕ) where
 
 module _ (t old : List ℕ) (at : ℕ) where
   -- a text that fits
-  text-put : at + length t ≤ length old → (writtenTo old at t ≡ at + length t) × (written old at t ≡ sets old at t)
+  pub text-put : at + length t ≤ length old → (writtenTo old at t ≡ at + length t) × (written old at t ≡ sets old at t)
   unfolding written writtenTo
   text-put h = let e = le-leb (at + length t) (length old) h in (rw e, rw e)
 

@@ -1,4 +1,4 @@
-// Writers of a line at a position, one to a form of value. A line that does not fit the buffer is not written at all.
+// Writers of a line at a position, one to a form of value, and of bytes. What does not fit the buffer is not written at all.
 ghost use mathlib.Core.Path.{_≡_};
 ghost use Prim.Native.Nat.{_+_, _≤_};
 ghost use lib.ListN.{length};
@@ -66,6 +66,21 @@ fn put_decimal(buf: &mut [u8], at: usize, n: usize, v: u64) -> usize
     }
     buf[at] = decimal_digit(w);
     at + n
+}
+
+// The bytes of src into buf at the position at: the position past them, or at where they do not fit.
+pub fn write_bytes(buf: &mut [u8], at: usize, src: &[u8]) -> usize
+    ensures { λ r. ⌜ (r ≡ writtenTo (now (buf .entry)) at (now (src .entry))) × (now (buf .exit) ≡ written (now (buf .entry)) at (now (src .entry))) ⌝ }
+{
+    let size = src.len();
+    let len = buf.len();
+    if len < size {
+        return at;
+    }
+    if len - size < at {
+        return at;
+    }
+    put_bytes(buf, at, src)
 }
 
 // The line of key and the last n hex digits of v, by the table, into buf at the position at: the position past it, or at where it does not fit.

@@ -19,7 +19,7 @@ pub(crate) struct Value {
 }
 
 // Where the next value begins.
-fn value_start(row: &[u8], from: usize) -> usize {
+pub(crate) fn value_start(row: &[u8], from: usize) -> usize {
     let mut at = from;
     while at < row.len() {
         if (row[at] == b'=') | (row[at] == b',') {
@@ -98,7 +98,7 @@ pub(crate) fn bytes(row: &[u8], from: usize) -> [u8; 32]
     bytes
 }
 
-fn byte(high: u8, low: u8) -> u8 {
+pub(crate) fn byte(high: u8, low: u8) -> u8 {
     (digit(high) % 16 * 16 + digit(low) % 16) as u8
 }
 

@@ -3,9 +3,11 @@
 // (docs/VECTORS.md).
 //
 // A row is fields `key=value` or `key=value,value,..`, apart by spaces. Its first letter says what it is: `#` a remark, which is printed
-// and no more; `r` an attribute to be read; `w` one to be written; `v` credentials, whether they are valid; else credentials and a call.
+// and no more; `r` an attribute to be read; `w` one to be written; `t` a text in names to be read, up to the end of the line; `n` sets to be
+// written in names; `v` credentials, whether they are valid; else credentials and a call.
 mod attributes;
 mod fields;
+mod named;
 mod output;
 mod threads;
 
@@ -54,7 +56,9 @@ fn show_line(line: &[u8]) {
     }
     match line[0] {
         b'#' => (),
+        b'n' => named::show_written(line),
         b'r' => attributes::show_reading(line),
+        b't' => named::show_text(line),
         b'w' => attributes::show_writing(line),
         b'v' => threads::show_validity(line),
         _ => threads::show_call(line),

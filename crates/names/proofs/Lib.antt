@@ -1,0 +1,12 @@
+pub mod Applied
+pub mod Words
+pub mod Run
+pub mod Completed
+pub mod WellFormedRead
+pub mod ReadWellFormed
+pub mod ByTheGrammar
+pub mod Rows
+pub mod WrittenClauses
+pub mod ReadWritable
+pub mod RoundTrip
+pub mod Longest

@@ -1,0 +1,9 @@
+pub mod Names
+pub mod Grammar
+pub mod Reading
+pub mod ByTheGrammar
+pub mod Writing
+pub mod RoundTrip
+pub mod Longest
+pub mod Inside
+pub mod Texts
