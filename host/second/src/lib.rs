@@ -3,7 +3,8 @@
 //!
 //! [`perform`] answers one call; [`run_plan`] reads a plan as text, runs its steps in order and writes a report.
 //! [`read_sheet`] and [`write_sheet`] turn credentials alone from text into numbers and back, [`read_attribute`] and
-//! [`write_attribute`] the capability attribute of a file from bytes.
+//! [`write_attribute`] the capability attribute of a file from bytes, [`read_names`] and [`write_names`] three
+//! capability sets from a text in names.
 
 mod attribute;
 mod buffer;
@@ -14,6 +15,7 @@ mod decode;
 mod group_ids;
 mod ids;
 mod launch;
+mod names;
 mod plan;
 mod reader;
 mod refusal;
@@ -28,6 +30,7 @@ pub use attribute::{read_attribute, write_attribute};
 pub use calls::{perform, Answer};
 pub use credentials::Credentials;
 pub use decode::Step;
+pub use names::{read_names, write_names};
 pub use plan::{run_plan, Outcome};
 pub use sheet::{read_sheet, write_sheet};
 pub use written::Written;

@@ -1,6 +1,6 @@
 //! Why a call, a reader or a writer is refused.
 
-/// The refusals. Those of a call stand in the order in which they are looked for; the last two are not for calls.
+/// The refusals. Those of a call stand in the order in which they are looked for; the last three are not for calls.
 #[derive(Clone, Copy, Debug, PartialEq, Eq)]
 pub(crate) enum Refusal {
     /// The credentials given are not valid.
@@ -11,10 +11,15 @@ pub(crate) enum Refusal {
     UnreadableAttribute,
     /// The rules of the call do not allow it (EPERM).
     NotPermitted,
-    /// The text is malformed.
+    /// The text of a sheet is malformed.
     Malformed {
         /// One more than the complete correct lines before the fault.
         line: u32,
+    },
+    /// The text in names is malformed.
+    MalformedAt {
+        /// The length of its longest beginning that well-formed text can have.
+        place: usize,
     },
     /// The buffer is too short for what would go into it.
     NoRoom,
@@ -28,7 +33,7 @@ impl Refusal {
             Refusal::BadOperand => 22,
             Refusal::UnreadableAttribute => 60,
             Refusal::NotPermitted => 1,
-            Refusal::Malformed { .. } => 70,
+            Refusal::Malformed { .. } | Refusal::MalformedAt { .. } => 70,
             Refusal::NoRoom => 28,
         }
     }

@@ -8,6 +8,8 @@ mod faults;
 mod group_ids;
 mod helpers;
 mod launch;
+mod names;
+mod names_defined;
 mod refusals;
 mod sheet;
 mod user_ids;
