@@ -3,8 +3,8 @@
 //! When a row applies is told from what was given alone (for a call: from the credentials before it and the call), so that a row does not echo
 //! the answer. What comes back is then held against the row. A run of enough plans that never meets a row fails: its plans are too tame.
 //!
-//! The rows of the calls stand in files by the paper's sections; those of texts, and of the readers and writers of sheets and attributes, in
-//! files of their own. They were written from the paper, as a third reading of it.
+//! The rows of the calls stand in files by the paper's sections; those of texts, and of the readers and writers of sheets, attributes and names,
+//! in files of their own. They were written from the paper, as a third reading of it.
 
 mod ambient;
 mod attribute;
@@ -16,8 +16,10 @@ mod group_ids;
 mod ids;
 mod launching;
 mod moment;
+mod names;
 mod operands;
 mod read_attribute;
+mod read_names;
 mod read_sheet;
 mod securebits;
 mod seen;
@@ -25,15 +27,19 @@ mod sheet;
 mod texts;
 mod validity;
 mod write_attribute;
+mod write_names;
 mod write_sheet;
 
 pub use moment::Moment;
+pub use names::LONGEST as LONGEST_NAMES;
 pub use read_attribute::AttributeRead;
+pub use read_names::{Again, NamesRead};
 pub use read_sheet::SheetRead;
 pub use seen::{Answer, Seen};
 pub use sheet::LONGEST as LONGEST_SHEET;
 pub use texts::Sight;
 pub use write_attribute::AttributeWrite;
+pub use write_names::NamesWrite;
 pub use write_sheet::SheetWrite;
 
 use family::Family;
@@ -69,6 +75,9 @@ pub struct Table {
     sheets_written: Group<SheetWrite>,
     attributes_read: Group<AttributeRead>,
     attributes_written: Group<AttributeWrite>,
+    names_malformed: Group<read_names::Malformed>,
+    names_read: Group<read_names::WellFormed>,
+    names_written: Group<NamesWrite>,
 }
 
 // Rows that look at the same, and where the first has its count.
@@ -108,12 +117,26 @@ impl Table {
         let sheets_written = sheets_read.followed_by(write_sheet::rows());
         let attributes_read = sheets_written.followed_by(read_attribute::rows());
         let attributes_written = attributes_read.followed_by(write_attribute::rows());
-        Table { calls, of_call, texts, sheets_read, sheets_written, attributes_read, attributes_written }
+        let names_malformed = attributes_written.followed_by(read_names::rows_of_malformed_texts());
+        let names_read = names_malformed.followed_by(read_names::rows_of_well_formed_texts());
+        let names_written = names_read.followed_by(write_names::rows());
+        Table {
+            calls,
+            of_call,
+            texts,
+            sheets_read,
+            sheets_written,
+            attributes_read,
+            attributes_written,
+            names_malformed,
+            names_read,
+            names_written,
+        }
     }
 
     /// Counts of nothing yet.
     pub fn counts(&self) -> Counts {
-        Counts(vec![0; self.attributes_written.end()])
+        Counts(vec![0; self.names_written.end()])
     }
 
     /// Counts the rows that apply to a call. Gives the name of a row whose demand is not met.
@@ -149,11 +172,26 @@ impl Table {
         self.attributes_written.meet(write, counts)
     }
 
+    /// The same for a text in names.
+    pub fn meet_names_read(&self, read: &NamesRead, counts: &mut Counts) -> Result<(), &str> {
+        match read {
+            NamesRead::Malformed(read) => self.names_malformed.meet(read, counts),
+            NamesRead::WellFormed(read) => self.names_read.meet(read, counts),
+        }
+    }
+
+    /// The same for sets that were to be written in names.
+    pub fn meet_names_write(&self, write: &NamesWrite, counts: &mut Counts) -> Result<(), &str> {
+        self.names_written.meet(write, counts)
+    }
+
     /// Each row's name with its count.
     pub fn counted(&self, counts: &Counts) -> Vec<(&str, u64)> {
         let names = self.calls.names().chain(self.texts.names());
         let names = names.chain(self.sheets_read.names()).chain(self.sheets_written.names());
         let names = names.chain(self.attributes_read.names()).chain(self.attributes_written.names());
+        let names = names.chain(self.names_malformed.names()).chain(self.names_read.names());
+        let names = names.chain(self.names_written.names());
         names.zip(counts.0.iter().copied()).collect()
     }
 }

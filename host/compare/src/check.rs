@@ -1,10 +1,12 @@
-//! Plans and inputs through both programs.
+//! Plans, inputs and names through both programs.
 
 mod functions;
 mod input;
+mod names;
 mod plan;
 
 pub use input::{InputChecker, FUNCTIONS};
+pub use names::{NamesChecker, NAME_FUNCTIONS};
 pub use plan::PlanChecker;
 
 use crate::branches::Counts;
@@ -20,6 +22,23 @@ pub trait Check {
 
     /// How often both programs were run.
     fn runs(&self) -> u64;
+}
+
+/// How much a reader or a writer was asked.
+#[derive(Clone, Copy, Default)]
+pub struct Tally {
+    /// How many inputs it was given.
+    pub inputs: u64,
+    /// How often both programs were run on them, and back again.
+    pub runs: u64,
+}
+
+impl Tally {
+    // Adds an input on which both programs were run so often.
+    fn add(&mut self, runs: u64) {
+        self.inputs += 1;
+        self.runs += runs;
+    }
 }
 
 // What is wrong where what came back is not what a row of the table demands.

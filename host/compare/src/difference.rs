@@ -9,7 +9,7 @@ const END: usize = 600;
 /// How many elements of a buffer are printed before and after the first that differs.
 const AROUND: usize = 60;
 
-/// A plan or an input on which the programs differ, or which does not come to what is known of it.
+/// A plan, an input or names on which the programs differ, or which do not come to what is known of them.
 pub struct Difference {
     /// Its seed.
     pub seed: u64,

@@ -1,8 +1,8 @@
 //! Runs generated plans through the proved library and the second program, and demands that they agree on code, line, length and every byte
-//! of the buffer; and inputs for the readers and writers of sheets and attributes likewise.
+//! of the buffer; and inputs for the readers and writers of sheets and attributes, and of names, likewise.
 //!
-//! The first plan on which they differ is printed, or else the first input, and the program ends with 1. So it does if a run of at least
-//! 20,000 did not reach every branch of the rules. Wrong arguments end it with 2.
+//! The first plan on which they differ is printed, or else the first input, or else the first text in names or sets to be written in names, and
+//! the program ends with 1. So it does if a run of at least 20,000 did not reach every branch of the rules. Wrong arguments end it with 2.
 
 mod arguments;
 mod branches;
@@ -13,13 +13,13 @@ mod stream;
 
 use arguments::Arguments;
 use branches::{Counts, Table};
-use check::{Check, InputChecker, PlanChecker, FUNCTIONS};
+use check::{Check, InputChecker, NamesChecker, PlanChecker, Tally, FUNCTIONS, NAME_FUNCTIONS};
 use difference::Difference;
 use std::process::ExitCode;
 use std::sync::atomic::{AtomicU64, Ordering};
 use std::thread;
 
-/// With so many plans and inputs every branch has to be reached.
+/// With so many plans and inputs, and the names of so many seeds, every branch has to be reached.
 const ENOUGH: u64 = 20_000;
 
 fn main() -> ExitCode {
@@ -65,11 +65,19 @@ fn compare(arguments: &Arguments) -> bool {
     );
     let Some(inputs) = checked(arguments, &mut counts, "input", || InputChecker::new(&table)) else { return false };
     for (function, name) in FUNCTIONS.iter().enumerate() {
-        let tallies = inputs.iter().map(|checker| checker.tallies[function]);
-        let (inputs, runs) = tallies.fold((0, 0), |(inputs, runs), tally| (inputs + tally.inputs, runs + tally.runs));
-        println!("compare: {inputs} inputs for {name}, {runs} runs of each program: no difference");
+        report_agreement("inputs", name, inputs.iter().map(|checker| checker.tallies[function]));
+    }
+    let Some(names) = checked(arguments, &mut counts, "names", || NamesChecker::new(&table)) else { return false };
+    for (function, (name, what)) in NAME_FUNCTIONS.iter().enumerate() {
+        report_agreement(what, name, names.iter().map(|checker| checker.tallies[function]));
     }
     report_branches(arguments, &table, &counts)
+}
+
+// Says of one of the readers and writers how much it was asked, by all threads.
+fn report_agreement(what: &str, name: &str, tallies: impl Iterator<Item = Tally>) {
+    let (inputs, runs) = tallies.fold((0, 0), |(inputs, runs), tally| (inputs + tally.inputs, runs + tally.runs));
+    println!("compare: {inputs} {what} for {name}, {runs} runs of each program: no difference");
 }
 
 // Checks as many seeds as are asked for, with a checker to each thread, and adds up what they reach. Gives the checkers; or prints the first

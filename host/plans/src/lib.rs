@@ -1,14 +1,16 @@
-//! Plans, sheets, attributes and broken texts, each made from one seed.
+//! Plans, sheets, attributes, texts in names and broken texts, each made from one seed.
 //!
 //! [`generated`] gives the text of any kind: plans that run, with the calls and operands that the rules tell apart; plans whose start is
-//! invalid; texts that are no plans. [`input`] gives what the readers and writers of sheets and attributes are asked. [`measured`] gives plans
-//! of a fixed number of steps, to take times by. The same seed gives the same.
+//! invalid; texts that are no plans. [`input`] gives what the readers and writers of sheets and attributes are asked. [`named_text`] gives texts
+//! in names and [`named_sets`] sets to be written in names. [`measured`] gives plans of a fixed number of steps, to take times by. The same seed
+//! gives the same.
 
 #![deny(missing_docs)]
 
 mod attributes;
 mod broken;
 mod inputs;
+mod names;
 mod random;
 mod sets;
 mod starts;
@@ -17,6 +19,7 @@ mod text;
 
 pub use broken::Fault;
 pub use inputs::{input, values, Input, Operands, VALUES};
+pub use names::{named_sets, named_text, NameFault, NamedKind, NamedText, CAPABILITY_NAMES};
 pub use text::{write_result, write_sheet, write_step};
 
 use random::Random;

@@ -1,8 +1,8 @@
-//! What a reader or a writer of sheets and attributes answers.
+//! What a reader or a writer answers.
 
 use crate::buffers::Element;
 
-/// A code, and the number beside it: the line of a fault, or how many places or bytes were written.
+/// A code, and the number beside it: the line or the place of a fault, or how many places or bytes were written.
 #[derive(Clone, Copy, Debug, PartialEq, Eq)]
 pub struct Answer {
     pub code: u32,
@@ -51,14 +51,15 @@ impl<T: Element> Seen<T> {
         [self.no_room, self.one_short, self.exact, self.some.1, self.roomy] == [refusal; 5]
     }
 
-    /// Whether that was written where there is room for it, and refusal 28 came where there is not.
+    /// Whether that was written where there is room for it, and refusal 28 came where there is not. Where it is nothing, any room is enough.
     pub fn is_done(&self, content: &[T]) -> bool {
         let done = Answer { code: 0, number: content.len() as u32 };
+        let short = if content.is_empty() { done } else { NO_ROOM };
         let (room, some) = self.some;
         self.written == content
             && [self.roomy, self.exact] == [done; 2]
-            && [self.one_short, self.no_room] == [NO_ROOM; 2]
-            && some == if room < content.len() { NO_ROOM } else { done }
+            && [self.one_short, self.no_room] == [short; 2]
+            && some == if room < content.len() { short } else { done }
     }
 
     /// All of it, in lines.
@@ -88,6 +89,22 @@ mod tests {
         assert!(!Seen { some: (2, NO_ROOM), ..seen() }.is_done(&[7, 8]));
         assert!(!Seen { one_short: seen().exact, ..seen() }.is_done(&[7, 8]));
         assert!(!Seen { no_room: Answer { code: 28, number: 1 }, ..seen() }.is_done(&[7, 8]));
+    }
+
+    #[test]
+    fn nothing_is_written_in_any_room() {
+        let done = Answer { code: 0, number: 0 };
+        let nothing = || Seen::<u8> {
+            no_room: done,
+            one_short: done,
+            exact: done,
+            some: (0, done),
+            roomy: done,
+            written: Vec::new(),
+        };
+        assert!(nothing().is_done(&[]));
+        assert!(!Seen { no_room: NO_ROOM, ..nothing() }.is_done(&[]));
+        assert!(!Seen { one_short: NO_ROOM, ..nothing() }.is_done(&[]));
     }
 
     #[test]

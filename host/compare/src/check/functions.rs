@@ -1,14 +1,14 @@
-//! The readers and writers of sheets and attributes, each in both programs.
+//! The readers and writers of sheets, attributes and names, each in both programs.
 
 use super::scattered;
-use crate::branches::{Answer, Seen, LONGEST_SHEET};
+use crate::branches::{Answer, Seen, LONGEST_NAMES, LONGEST_SHEET};
 use crate::buffers::{Buffers, Element};
 use crate::difference::both;
 use plans::{Operands, VALUES};
 use second::Written;
 use urrezkalu::interface;
 
-/// One of the four with what it is given.
+/// One of the six with what it is given.
 pub trait Function {
     /// What it writes.
     type Element: Element;
@@ -82,6 +82,39 @@ impl Function for WriteAttribute {
     fn second(&self, attribute: &mut [u8]) -> Written {
         let Operands { permitted, inheritable, effective } = self.0;
         second::write_attribute(permitted, inheritable, effective, attribute)
+    }
+}
+
+pub struct ReadNames<'t>(pub &'t [u8]);
+
+impl Function for ReadNames<'_> {
+    type Element = u64;
+    const MOST: usize = 3;
+
+    fn proved(&self, values: &mut [u64]) -> u64 {
+        interface::read_names(self.0, values)
+    }
+
+    fn second(&self, values: &mut [u64]) -> Written {
+        second::read_names(self.0, values)
+    }
+}
+
+/// The sets are permitted, inheritable, effective.
+pub struct WriteNames(pub [u64; 3]);
+
+impl Function for WriteNames {
+    type Element = u8;
+    const MOST: usize = LONGEST_NAMES;
+
+    fn proved(&self, text: &mut [u8]) -> u64 {
+        let [permitted, inheritable, effective] = self.0;
+        interface::write_names(permitted, inheritable, effective, text)
+    }
+
+    fn second(&self, text: &mut [u8]) -> Written {
+        let [permitted, inheritable, effective] = self.0;
+        second::write_names(permitted, inheritable, effective, text)
     }
 }
 

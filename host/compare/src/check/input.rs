@@ -1,7 +1,7 @@
 //! One input for a reader or a writer of sheets or attributes: in buffers of several lengths, and back again.
 
 use super::functions::{back_again, see, Fault, ReadAttribute, ReadSheet, WriteAttribute, WriteSheet};
-use super::{against_the_table, Check};
+use super::{against_the_table, Check, Tally};
 use crate::branches::{AttributeRead, AttributeWrite, Counts, Seen, SheetRead, SheetWrite, Table, LONGEST_SHEET};
 use crate::buffers::{Buffers, Element};
 use crate::difference::{self, Checked, Difference};
@@ -12,15 +12,6 @@ pub const FUNCTIONS: [&str; 4] = ["read_sheet", "write_sheet", "read_attribute",
 
 /// How much of a long list of numbers or bytes is printed.
 const FRONT: usize = 64;
-
-/// How much one of the four was asked.
-#[derive(Clone, Copy, Default)]
-pub struct Tally {
-    /// How many inputs it was given.
-    pub inputs: u64,
-    /// How often both programs were run on them, and back again.
-    pub runs: u64,
-}
 
 /// Checks inputs one after the other.
 pub struct InputChecker<'a> {
@@ -43,8 +34,7 @@ impl Check for InputChecker<'_> {
             Input::ReadAttribute(attribute) => self.read_attribute(seed, attribute),
             Input::WriteAttribute(operands) => self.write_attribute(seed, operands),
         };
-        self.tallies[function].inputs += 1;
-        self.tallies[function].runs += self.runs() - runs_before;
+        self.tallies[function].add(self.runs() - runs_before);
         checked.map_err(|Fault { what, more }| {
             let what = format!("{}: {what}", FUNCTIONS[function]);
             Box::new(Difference { seed, what, given: given(&plans::input(seed)), more })
