@@ -1,4 +1,4 @@
-/* The proved library, for C11 and C++11: plans, credential sheets and file attributes.
+/* The proved library, for C11 and C++11: plans, credential sheets, file attributes, and capability sets in names.
  *
  * A plan is a text: the credentials that a thread starts with, then up to 256 calls. urrezkalu_run_plan writes the report: what each call
  * answers and what the thread holds after the last, or it says why the plan is refused. Every text gets an answer.
@@ -19,12 +19,23 @@
  *         setxattr(path, "security.capability", attribute, urrezkalu_length(number), 0);
  *     }
  *
+ * A text in names stands for three capability sets, permitted, inheritable and effective, in the form of cap_text_formats(7): urrezkalu_read_names
+ * gives the sets, urrezkalu_write_names makes a text of them. `cap_net_raw+ep cap_kill=i` has CAP_NET_RAW effective and permitted, and CAP_KILL
+ * inheritable.
+ *
+ *     uint64_t sets[URREZKALU_NAMED_VALUES];
+ *     uint64_t number = urrezkalu_read_names(text, text_length, sets, URREZKALU_NAMED_VALUES);
+ *     if (urrezkalu_code(number) == URREZKALU_MALFORMED) {
+ *         fprintf(stderr, "malformed at place %u\n", (unsigned)urrezkalu_place(number));
+ *     }
+ *
  * Link with libcapi.a. It needs no other library; the one symbol that it leaves open is memset, which every C library has.
  *
- * What holds of all five functions:
+ * What holds of all seven functions:
  *
- * One number comes back: the code times 4294967296, plus the line of a fault, or plus how much was written. urrezkalu_code, urrezkalu_line and
- * urrezkalu_length take it apart. What would be refused for several reasons is refused for the first, in the order that the function names.
+ * One number comes back: the code times 4294967296, plus the line or the place of a fault, or plus how much was written. urrezkalu_code,
+ * urrezkalu_line, urrezkalu_place and urrezkalu_length take it apart. What would be refused for several reasons is refused for the first, in the
+ * order that the function names.
  *
  * What is written stands at the front of the buffer, a text with no NUL after it, and what the buffer holds past that is as it was. Where a
  * function refuses, for whatever reason, all of the buffer is as it was. What is handed over to be read is only read. It may have any bytes,
@@ -51,10 +62,10 @@ extern "C" {
 /* The codes. Each function names those that it has. */
 enum {
     URREZKALU_DONE = 0,          /* Done. */
-    URREZKALU_OUT_OF_RANGE = 22, /* A file's set has a bit above 40, or its effective bit is neither 0 nor 1. */
+    URREZKALU_OUT_OF_RANGE = 22, /* A set has a bit above 40, or a file's effective bit is neither 0 nor 1. */
     URREZKALU_NO_ROOM = 28,      /* What is to be written is longer than the buffer. */
     URREZKALU_UNREADABLE = 60,   /* The bytes are no attribute. */
-    URREZKALU_MALFORMED = 70,    /* The text is no plan, or no sheet; urrezkalu_line says where. */
+    URREZKALU_MALFORMED = 70,    /* The text is no plan, or no sheet: urrezkalu_line says where. Or no text in names: urrezkalu_place does. */
     URREZKALU_INVALID = 72       /* The credentials are not valid. */
 };
 
@@ -68,7 +79,10 @@ enum {
      * URREZKALU_LONGEST_SHEET + 1 bytes decide the line. */
     URREZKALU_LONGEST_SHEET = 284,
     /* The bytes of every attribute that is written. */
-    URREZKALU_ATTRIBUTE_LENGTH = 20
+    URREZKALU_ATTRIBUTE_LENGTH = 20,
+    /* The most bytes that sets have which are written in names: a buffer of this length is never too short. A text that is read may be longer; it
+     * has no greatest length. */
+    URREZKALU_LONGEST_NAMES = 748
 };
 
 /* The places of a sheet's values, in the order of its lines. In a set, bit n is capability n. */
@@ -98,6 +112,14 @@ enum {
     URREZKALU_FILE_INHERITABLE = 2,
     URREZKALU_FILE_EFFECTIVE = 3,   /* Its effective bit, 0 or 1. */
     URREZKALU_FILE_VALUES = 4       /* How many they are. */
+};
+
+/* The places of the three sets of a text in names. */
+enum {
+    URREZKALU_NAMED_PERMITTED = 0,
+    URREZKALU_NAMED_INHERITABLE = 1,
+    URREZKALU_NAMED_EFFECTIVE = 2,
+    URREZKALU_NAMED_VALUES = 3 /* How many they are. */
 };
 
 /* Runs the plan and writes its report at the front of the buffer `report`, which has room for `report_length` bytes.
@@ -132,21 +154,50 @@ uint64_t urrezkalu_read_attribute(const uint8_t *attribute, size_t attribute_len
  * Refusals, in this order: URREZKALU_OUT_OF_RANGE; URREZKALU_NO_ROOM. */
 uint64_t urrezkalu_write_attribute(uint64_t permitted, uint64_t inheritable, uint64_t effective, uint8_t *attribute, size_t attribute_length);
 
+/* Reads a text in names into the first URREZKALU_NAMED_VALUES of the `values_count` values, and URREZKALU_NAMED_VALUES is the length that comes
+ * back.
+ *
+ * A text is clauses with spaces, tabs or newlines between them, any number of these, which can stand at both ends too. A clause is names joined by
+ * commas, or `all`, or nothing, which both mean all 41 capabilities; and then one operator or more, each with its flags. `=` takes the capabilities
+ * out of all three sets and then gives them to the sets of its flags, `+` gives them to those sets, `-` takes them out of those. The flags are `e`,
+ * `i` and `p`, for effective, inheritable and permitted, in any order, also repeated; only `=` can have none. A clause without names begins with
+ * `=`. The sets are empty at first, and everything is done from left to right: text without a clause is three empty sets. The names are those of
+ * linux/capability.h. Names and `all` are read in either case, each letter by itself; flags are lower case.
+ *
+ * Refusals, in this order: URREZKALU_MALFORMED, for any other text; URREZKALU_NO_ROOM, for fewer than URREZKALU_NAMED_VALUES values. Whether the
+ * sets are those of valid credentials is not asked. */
+uint64_t urrezkalu_read_names(const uint8_t *text, size_t text_length, uint64_t *values, size_t values_count);
+
+/* Writes the sets in names at the front of the buffer `text`, which has room for `text_length` bytes: one clause for each capability that is in any
+ * of them, by number, with its name in lower case, `=`, and its flags in the order e, i, p; one space between clauses, and no newline after the last.
+ * Three empty sets are the empty text, which fits a buffer of no bytes. What is written is read as the sets that it was written for.
+ *
+ * Refusals, in this order: URREZKALU_OUT_OF_RANGE; URREZKALU_NO_ROOM. */
+uint64_t urrezkalu_write_names(uint64_t permitted, uint64_t inheritable, uint64_t effective, uint8_t *text, size_t text_length);
+
 /* One of the codes above. */
 static inline uint32_t urrezkalu_code(uint64_t number)
 {
     return (uint32_t)(number >> 32);
 }
 
-/* The first line at fault, which is one more than the complete correct lines before it, for URREZKALU_MALFORMED: 1 to 1296 of a plan, 1 to 16
- * of a sheet. 0 for the other codes. */
+/* The first line at fault, which is one more than the complete correct lines before it, for URREZKALU_MALFORMED of a plan or a sheet: 1 to 1296
+ * of a plan, 1 to 16 of a sheet. 0 for the other codes. Of a text in names the number has no line, but a place: urrezkalu_place. */
 static inline uint32_t urrezkalu_line(uint64_t number)
 {
     return urrezkalu_code(number) == URREZKALU_MALFORMED ? (uint32_t)(number & UINT32_MAX) : 0;
 }
 
-/* How much was written at the front of the buffer: the bytes of a report, a sheet or an attribute, or the count of values. 0 where the
- * function refused. */
+/* The place at fault, for URREZKALU_MALFORMED of urrezkalu_read_names: the length of the text's longest beginning that some bytes complete to a
+ * text in names. The byte at that place, counted from 0, cannot stand there; where the place is the text's length, the text only ends too early.
+ * 4294967295 stands for that place or any greater one. 0 for the other codes, but 0 is a place too: that of the first byte. */
+static inline uint32_t urrezkalu_place(uint64_t number)
+{
+    return urrezkalu_code(number) == URREZKALU_MALFORMED ? (uint32_t)(number & UINT32_MAX) : 0;
+}
+
+/* How much was written at the front of the buffer: the bytes of a report, a sheet, an attribute or a text in names, or the count of values. 0 where
+ * the function refused, and for three empty sets in names. */
 static inline size_t urrezkalu_length(uint64_t number)
 {
     return urrezkalu_code(number) == URREZKALU_DONE ? (size_t)(number & UINT32_MAX) : 0;

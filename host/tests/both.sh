@@ -1,5 +1,5 @@
-# For installers.sh and attribute_bytes.sh: an example in C and the same in Rust, run on the same arguments. Standard output, standard error and
-# status of both have to be what is expected, to the byte, and so the same.
+# For installers.sh, attribute_bytes.sh and capability_names.sh: an example in C and the same in Rust, run on the same arguments and input. Standard
+# output, standard error and status of both have to be what is expected, to the byte, and so the same.
 set -eu
 export LC_ALL=C
 run=0
@@ -17,6 +17,11 @@ start() {
     nothing_expected
 }
 
+# What the next run has on standard input, a file's content; else it is nothing.
+reads() {
+    input=$1
+}
+
 # What the next run has to write: a line on standard error; a line, or a file's content, on standard output.
 says() {
     printf '%s\n' "$1" >>"$work/expected/stderr"
@@ -31,6 +36,7 @@ prints_file() {
     cat -- "$1" >>"$work/expected/together"
 }
 nothing_expected() {
+    input=/dev/null
     for stream in stdout stderr together; do
         : >"$work/expected/$stream"
     done
@@ -41,12 +47,12 @@ record() {
     into=$1
     shift
     status=0
-    "$@" >"$work/$into/stdout" 2>"$work/$into/stderr" || status=$?
+    "$@" <"$input" >"$work/$into/stdout" 2>"$work/$into/stderr" || status=$?
     echo "$status" >"$work/$into/status"
-    "$@" >"$work/$into/together" 2>&1 || true
+    "$@" <"$input" >"$work/$into/together" 2>&1 || true
 }
 
-# check WHAT STATUS ARGUMENT..: both programs with these arguments. What they have to write has been said before, and is forgotten after.
+# check WHAT STATUS ARGUMENT..: both programs with these arguments. What they read and have to write has been said before, and is forgotten after.
 check() {
     what=$1
     echo "$2" >"$work/expected/status"

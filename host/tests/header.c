@@ -7,15 +7,16 @@
 #include <assert.h>
 #include <stdio.h>
 
-/* As proved in crates/format/specs/Longest.antt. */
+/* As proved in crates/format/specs/Longest.antt and crates/names/specs/Longest.antt. */
 static_assert(URREZKALU_LONGEST_PLAN == 30748, "the longest plan");
 static_assert(URREZKALU_LONGEST_REPORT == 8220, "the longest report");
+static_assert(URREZKALU_LONGEST_NAMES == 748, "the longest sets in names");
 
 /* As the paper's forms of lines and of version 2 add up. */
 static_assert(URREZKALU_LONGEST_SHEET == 2 * (3 * 16 + 17) + 27 + 29 + 27 + 26 + 25 + 14 + 6, "the longest sheet, line by line");
 static_assert(URREZKALU_ATTRIBUTE_LENGTH == 5 * 4, "five words of an attribute");
 
-/* The places are in the order of a sheet's lines, and of "attached, permitted, inheritable, effective bit". */
+/* The places are in the order of a sheet's lines, of "attached, permitted, inheritable, effective bit", and of "permitted, inheritable, effective". */
 static_assert(URREZKALU_RUID == 0 && URREZKALU_EUID == 1 && URREZKALU_SUID == 2 && URREZKALU_FSUID == 3, "the places of the user IDs");
 static_assert(URREZKALU_RGID == 4 && URREZKALU_EGID == 5 && URREZKALU_SGID == 6 && URREZKALU_FSGID == 7, "the places of the group IDs");
 static_assert(URREZKALU_PERMITTED == 8 && URREZKALU_INHERITABLE == 9 && URREZKALU_EFFECTIVE == 10 && URREZKALU_BOUNDING == 11 && URREZKALU_AMBIENT == 12,
@@ -24,6 +25,8 @@ static_assert(URREZKALU_SECUREBITS == 13 && URREZKALU_NNP == 14 && URREZKALU_SHE
 static_assert(URREZKALU_ATTACHED == 0 && URREZKALU_FILE_PERMITTED == 1 && URREZKALU_FILE_INHERITABLE == 2 && URREZKALU_FILE_EFFECTIVE == 3,
               "the places of a file");
 static_assert(URREZKALU_FILE_VALUES == 4, "their count");
+static_assert(URREZKALU_NAMED_PERMITTED == 0 && URREZKALU_NAMED_INHERITABLE == 1 && URREZKALU_NAMED_EFFECTIVE == 2, "the places of sets in names");
+static_assert(URREZKALU_NAMED_VALUES == 3, "their count");
 
 /* The paper's table "What comes back". */
 static_assert(URREZKALU_DONE == 0 && URREZKALU_OUT_OF_RANGE == 22 && URREZKALU_NO_ROOM == 28, "codes that are errors of the system too");
@@ -32,22 +35,26 @@ static_assert(URREZKALU_UNREADABLE == 60 && URREZKALU_MALFORMED == 70 && URREZKA
 struct number {
     uint64_t whole;
     uint32_t code;
-    uint32_t line;
+    uint32_t line; /* And place: which it is, is the function's. */
     size_t length;
 };
 
-/* As the paper has it: code times 4294967296 plus line or length. A number of none of the six codes has neither a line nor a length. */
+/* As the paper has it: code times 4294967296 plus line, place or length. A number of none of the six codes has none of them. */
 static const struct number numbers[] = {
+    {0, URREZKALU_DONE, 0, 0},
+    {3, URREZKALU_DONE, 0, URREZKALU_NAMED_VALUES},
     {4, URREZKALU_DONE, 0, URREZKALU_FILE_VALUES},
     {15, URREZKALU_DONE, 0, URREZKALU_SHEET_VALUES},
     {20, URREZKALU_DONE, 0, URREZKALU_ATTRIBUTE_LENGTH},
     {266, URREZKALU_DONE, 0, 266},
     {284, URREZKALU_DONE, 0, URREZKALU_LONGEST_SHEET},
+    {748, URREZKALU_DONE, 0, URREZKALU_LONGEST_NAMES},
     {8220, URREZKALU_DONE, 0, URREZKALU_LONGEST_REPORT},
     {4294967295, URREZKALU_DONE, 0, 4294967295},
     {94489280512, URREZKALU_OUT_OF_RANGE, 0, 0},
     {120259084288, URREZKALU_NO_ROOM, 0, 0},
     {257698037760, URREZKALU_UNREADABLE, 0, 0},
+    {300647710720, URREZKALU_MALFORMED, 0, 0},
     {300647710721, URREZKALU_MALFORMED, 1, 0},
     {300647710736, URREZKALU_MALFORMED, 16, 0},
     {300647712016, URREZKALU_MALFORMED, 1296, 0},
@@ -78,7 +85,7 @@ static void expect_answer(uint64_t found, uint64_t expected, const char *what)
 static int is_as_expected(const struct number *expected)
 {
     return urrezkalu_code(expected->whole) == expected->code && urrezkalu_line(expected->whole) == expected->line &&
-           urrezkalu_length(expected->whole) == expected->length;
+           urrezkalu_place(expected->whole) == expected->line && urrezkalu_length(expected->whole) == expected->length;
 }
 
 int main(void)
@@ -92,6 +99,9 @@ int main(void)
     expect_answer(urrezkalu_write_sheet(NULL, 0, NULL, 0), 309237645312, "comes back for no values, which are invalid");
     expect_answer(urrezkalu_read_attribute(NULL, 0, NULL, 0), 120259084288, "comes back for no attribute, to be read into no room");
     expect_answer(urrezkalu_write_attribute(0, 0, 0, NULL, 0), 120259084288, "comes back for empty sets, to be written into no room");
+    expect_answer(urrezkalu_read_names(NULL, 0, NULL, 0), 120259084288, "comes back for an empty text in names, to be read into no room");
+    expect_answer(urrezkalu_write_names(0, 0, 0, NULL, 0), 0, "comes back for empty sets in names, which need no room");
+    expect_answer(urrezkalu_write_names(0, 0, 0x20000000000, NULL, 0), 94489280512, "comes back for capability 41 in names, which is out of range");
     printf("header: %zu of %zu numbers as expected\n", tried - faults, tried);
     return faults == 0 ? 0 : 1;
 }

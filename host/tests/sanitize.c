@@ -1,17 +1,18 @@
 /* The C interface under the address and undefined-behaviour sanitizers, and between inaccessible pages.
  *
- *     sanitize PLAN.. [-]      runs the plans, and with `-` a stream of them on standard input; and attributes that it makes
+ *     sanitize PLAN.. [-]      runs the plans, and with `-` a stream of them on standard input; and attributes and texts in names of its own
  *     sanitize --self-test     shows that the guards and the checks catch what they are there for
  *
  * In the stream each plan is its length, 32 bits with the least significant byte first, and then its bytes.
  *
- * A text is run as a plan, and read as a sheet, whole and in its first fifteen lines; what is read is written again. Attributes are of every
- * length from none to past the longest. Each function is called with no room, with one place too few, with exactly enough and with more; to read
- * values or to write an attribute, with every number of places from none to past enough. All that in three places: with both buffers at the very
- * end, and then at the very start, of mappings that have inaccessible pages on both sides, what is read in pages that cannot be written; and then
- * in heap blocks of just their lengths. The library itself is not instrumented, so that the sanitizers see only what it hands to the C library; the
- * pages are what ends this program for certain at the library's first byte out of bounds. What is in a buffer and is not written must keep its
- * pattern, all runs on one input must agree, and so must the functions with each other. */
+ * A text is run as a plan, and read as a sheet, whole and in its first fifteen lines; what is read is written again. It is read as a text in names
+ * too. Texts that are in names are good and broken, the good ones whole and cut at every byte. Attributes are of every length from none to past the
+ * longest. Each function is called with no room, with one place too few, with exactly enough and with more; to read values, to write an attribute
+ * or to write sets in names, with every number of places from none to past enough. All that in three places: with both buffers at the very end, and
+ * then at the very start, of mappings that have inaccessible pages on both sides, what is read in pages that cannot be written; and then in heap
+ * blocks of just their lengths. The library itself is not instrumented, so that the sanitizers see only what it hands to the C library; the pages
+ * are what ends this program for certain at the library's first byte out of bounds. What is in a buffer and is not written must keep its pattern,
+ * all runs on one input must agree, and so must the functions with each other. */
 #include "sanitize.h"
 
 #include <sanitizer/common_interface_defs.h>
@@ -120,12 +121,14 @@ int main(int argc, char **argv)
         }
     }
     try_attributes(&bench);
+    try_names(&bench);
     clear_away(&bench);
     if (bench.texts == 0) {
         fprintf(stderr, "sanitize: no plans: sanitize PLAN.. [-], or sanitize --self-test\n");
         return TROUBLE;
     }
-    printf("sanitize: %zu texts, %zu attributes, %zu runs, %zu faults\n", bench.texts, bench.attributes, bench.runs, bench.faults);
+    printf("sanitize: %zu texts, %zu attributes, %zu texts in names, %zu runs, %zu faults\n", bench.texts, bench.attributes, bench.names, bench.runs,
+           bench.faults);
     if (bench.faults != 0) {
         return FAULTS;
     }

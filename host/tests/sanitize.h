@@ -31,9 +31,10 @@ void unmap_guarded(struct guarded pages);
 void allow(struct guarded pages, int protection);
 
 /* The functions of the header. */
-enum function { RUN_PLAN, READ_SHEET, WRITE_SHEET, READ_ATTRIBUTE, WRITE_ATTRIBUTE, FUNCTIONS };
+enum function { RUN_PLAN, READ_SHEET, WRITE_SHEET, READ_ATTRIBUTE, WRITE_ATTRIBUTE, READ_NAMES, WRITE_NAMES, FUNCTIONS };
 
-/* A call of any of them, with what it reads and what it may write as bytes. What urrezkalu_write_attribute has for an input are its operands. */
+/* A call of any of them, with what it reads and what it may write as bytes. What urrezkalu_write_attribute and urrezkalu_write_names have for an
+ * input are their operands. */
 struct call {
     enum function function;
     const uint8_t *input;
@@ -52,7 +53,7 @@ const char *name_of(enum function function);
 /* The bytes of one place in what the function writes: of a value, or of a byte. */
 size_t unit_of(enum function function);
 
-/* The code of its refusal that has no line and is not for want of room. */
+/* The code of its refusal that has no line and is not for want of room. That of urrezkalu_read_names has a place. */
 uint32_t refusal_of(enum function function);
 
 /* Where input and output of a run are. The pages come first: there a stray access has no way to spoil the heap unseen. */
@@ -69,6 +70,7 @@ struct bench {
     uint8_t *patterns[PLACES];
     size_t texts;
     size_t attributes;
+    size_t names;
     size_t done[FUNCTIONS]; /* The inputs with which each function was done, and those that it refused. */
     size_t refused[FUNCTIONS];
     size_t runs;
@@ -100,7 +102,7 @@ bool try_function(struct bench *bench, struct trial *trial, enum function functi
 /* Counts a fault of the input and the function that were tried last, unless all is right. */
 void expect(struct bench *bench, bool right, const char *what);
 
-/* Runs a text: as a plan and as a sheet, its first fifteen lines as a sheet, and the values of that. */
+/* Runs a text: as a plan, as a sheet and as one in names, its first fifteen lines as a sheet, and the values of that. */
 void try_text(struct bench *bench, const char *name, size_t position, const uint8_t *text, size_t text_length);
 
 /* Runs the bytes as an attribute, and what they are read as. */
@@ -108,6 +110,21 @@ void try_attribute(struct bench *bench, const uint8_t *attribute, size_t attribu
 
 /* Runs attributes of 0 to 32 bytes, and sets and bits in range and out of it. */
 void try_attributes(struct bench *bench);
+
+/* A set, by the two lowest bits of `variant` in range, full, of one capability, or of any 64. */
+uint64_t make_set(unsigned variant, uint64_t *state);
+
+/* Runs a text in names that stands for these three sets, the same cut at every byte, and the sets. */
+void try_named_text(struct bench *bench, const char *text, const uint64_t *sets);
+
+/* Runs a text that is malformed at this place, and what is before the place. */
+void try_malformed_text(struct bench *bench, const char *text, size_t text_length, size_t place);
+
+/* Runs three sets: they are written in names, and what is written is read. */
+void try_sets(struct bench *bench, const uint64_t *sets);
+
+/* Runs texts in names, good and broken, and sets in range and out of it. */
+void try_names(struct bench *bench);
 
 /* Shows that stray accesses and wrong answers are caught: 0 if they all are. */
 int self_test(void);

@@ -93,8 +93,7 @@ static void make_attribute(uint8_t *bytes, size_t length, unsigned variant, uint
     }
 }
 
-/* A set, by the two lowest bits of `variant` in range, full, of one capability, or of any 64. */
-static uint64_t make_set(unsigned variant, uint64_t *state)
+uint64_t make_set(unsigned variant, uint64_t *state)
 {
     uint64_t any = next(state);
     switch (variant % 4) {

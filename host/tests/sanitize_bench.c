@@ -20,7 +20,7 @@ static const struct nature {
     size_t most;
     size_t longest_input; /* The most bytes of an input with which it is done. */
     uint32_t last_line;   /* The greatest line of a fault, or 0 if it reads no text. */
-    uint32_t refusal;     /* The code of its other refusal, where there is room. */
+    uint32_t refusal;     /* The code of its other refusal, where there is room. If that is URREZKALU_MALFORMED, it has a place and no line. */
     size_t rooms;         /* Such an input is run with 0 to so many places; others, or all if that is 0, with room about what is written. */
 } functions[FUNCTIONS] = {
     [RUN_PLAN] = {"urrezkalu_run_plan", 1, SHORTEST_SHEET, URREZKALU_LONGEST_REPORT, URREZKALU_LONGEST_PLAN, 1296, URREZKALU_INVALID, 0},
@@ -30,6 +30,8 @@ static const struct nature {
                         URREZKALU_UNREADABLE, 13},
     [WRITE_ATTRIBUTE] = {"urrezkalu_write_attribute", 1, URREZKALU_ATTRIBUTE_LENGTH, URREZKALU_ATTRIBUTE_LENGTH, 3 * VALUE, 0, URREZKALU_OUT_OF_RANGE,
                          32},
+    [READ_NAMES] = {"urrezkalu_read_names", VALUE, URREZKALU_NAMED_VALUES, URREZKALU_NAMED_VALUES, SIZE_MAX, 0, URREZKALU_MALFORMED, 5},
+    [WRITE_NAMES] = {"urrezkalu_write_names", 1, 0, URREZKALU_LONGEST_NAMES, 3 * VALUE, 0, URREZKALU_OUT_OF_RANGE, URREZKALU_LONGEST_NAMES + 4},
 };
 
 /* The run that is under way. It stands here for the message about a run that never comes back, which can be given nothing. */
@@ -71,6 +73,10 @@ uint64_t call_library(const struct call *call)
         return urrezkalu_read_attribute(call->input, call->input_length, (uint64_t *)call->output, call->output_length / VALUE);
     case WRITE_ATTRIBUTE:
         return urrezkalu_write_attribute(values[0], values[1], values[2], call->output, call->output_length);
+    case READ_NAMES:
+        return urrezkalu_read_names(call->input, call->input_length, (uint64_t *)call->output, call->output_length / VALUE);
+    case WRITE_NAMES:
+        return urrezkalu_write_names(values[0], values[1], values[2], call->output, call->output_length);
     default:
         return urrezkalu_run_plan(call->input, call->input_length, call->output, call->output_length);
     }
@@ -271,12 +277,13 @@ static void first_run(struct bench *bench, struct trial *trial)
         bench->done[trial->function]++;
         expect_of_run(bench, rest >= function->least && rest <= function->most, "it writes nothing of this length");
         expect_of_run(bench, bench->input_length <= function->longest_input, "it is done with nothing of this length");
-    } else if (code == URREZKALU_MALFORMED) {
+    } else if (code == URREZKALU_MALFORMED && code != function->refusal) {
         bench->refused[trial->function]++;
         expect_of_run(bench, rest >= 1 && rest <= function->last_line, "no fault has this line");
     } else {
         bench->refused[trial->function]++;
-        expect_of_run(bench, code == function->refusal && rest == 0, "there is no such number where there is room");
+        size_t last_place = code == URREZKALU_MALFORMED ? bench->input_length : 0;
+        expect_of_run(bench, code == function->refusal && rest <= last_place, "there is no such number where there is room");
     }
 }
 

@@ -267,6 +267,37 @@ static uint64_t writes_users_as_groups(const struct call *call)
     return urrezkalu_write_sheet(values, URREZKALU_SHEET_VALUES, call->output, call->output_length);
 }
 
+static uint64_t tells_the_place_before(const struct call *call)
+{
+    uint64_t number = call_library(call);
+    return urrezkalu_place(number) != 0 ? number - 1 : number;
+}
+
+static uint64_t tells_the_place_after(const struct call *call)
+{
+    uint64_t number = call_library(call);
+    return urrezkalu_code(number) == URREZKALU_MALFORMED && urrezkalu_place(number) < call->input_length ? number + 1 : number;
+}
+
+static uint64_t reads_permitted_as_effective(const struct call *call)
+{
+    uint64_t number = call_library(call);
+    if (urrezkalu_code(number) == URREZKALU_DONE) {
+        uint64_t *sets = (uint64_t *)call->output;
+        uint64_t permitted = sets[URREZKALU_NAMED_PERMITTED];
+        sets[URREZKALU_NAMED_PERMITTED] = sets[URREZKALU_NAMED_EFFECTIVE];
+        sets[URREZKALU_NAMED_EFFECTIVE] = permitted;
+    }
+    return number;
+}
+
+static uint64_t writes_permitted_as_effective(const struct call *call)
+{
+    const uint64_t *sets = (const uint64_t *)call->input;
+    return urrezkalu_write_names(sets[URREZKALU_NAMED_EFFECTIVE], sets[URREZKALU_NAMED_INHERITABLE], sets[URREZKALU_NAMED_PERMITTED], call->output,
+                                 call->output_length);
+}
+
 const struct mishap mishaps[] = {
     {"a read before the input's pages", read_before_input_pages, FAULT_IN_MEMORY},
     {"a read after the input's pages", read_after_input_pages, FAULT_IN_MEMORY},
@@ -286,11 +317,13 @@ const size_t mishaps_count = sizeof mishaps / sizeof mishaps[0];
 /* The functions in which a fault is tried. */
 enum {
     ALL = (1 << FUNCTIONS) - 1,
-    WITH_INPUT = ALL & ~(1 << WRITE_ATTRIBUTE), /* The operands of that one are no buffer of its. */
+    WITH_INPUT = ALL & ~(1 << WRITE_ATTRIBUTE | 1 << WRITE_NAMES), /* The operands of those are no buffer of theirs. */
     WITH_LINES = 1 << RUN_PLAN | 1 << READ_SHEET,
     READ_AGAIN = ALL & ~(1 << RUN_PLAN), /* Nothing here reads a report. */
     SHEET_READER = 1 << READ_SHEET,
-    SHEET_WRITER = 1 << WRITE_SHEET
+    SHEET_WRITER = 1 << WRITE_SHEET,
+    NAMES_READER = 1 << READ_NAMES,
+    NAMES_WRITER = 1 << WRITE_NAMES
 };
 
 const struct fault faults[] = {
@@ -314,5 +347,9 @@ const struct fault faults[] = {
     {"takes one value less", takes_one_value_less, SHEET_WRITER, FOUND_BY_CHECK},
     {"reads user IDs as group IDs", reads_users_as_groups, SHEET_READER, FOUND_BY_CHECK},
     {"writes user IDs as group IDs", writes_users_as_groups, SHEET_WRITER, FOUND_BY_CHECK},
+    {"tells the place before", tells_the_place_before, NAMES_READER, FOUND_BY_CHECK},
+    {"tells the place after", tells_the_place_after, NAMES_READER, FOUND_BY_CHECK},
+    {"reads the permitted set as the effective one", reads_permitted_as_effective, NAMES_READER, FOUND_BY_CHECK},
+    {"writes the permitted set as the effective one", writes_permitted_as_effective, NAMES_WRITER, FOUND_BY_CHECK},
 };
 const size_t faults_count = sizeof faults / sizeof faults[0];

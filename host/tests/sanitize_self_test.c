@@ -11,7 +11,8 @@
 
 static const char *const endings[] = {"a fault in memory", "an end by the sanitizers", "a fault that was counted", "no fault"};
 
-/* A sheet, with the values in it changed in all ways; the same cut short; a plan. Attributes: none, of both versions, and an unreadable one. */
+/* A sheet, with the values in it changed in all ways; the same cut short; a plan. Attributes: none, of both versions, and an unreadable one. Texts in
+ * names: a good one, and so its sets, and a broken one; and sets that are out of range. */
 void try_inputs(struct bench *bench)
 {
     static const char plan[] = "ruid=1\neuid=2\nsuid=3\nfsuid=4\nrgid=5\negid=6\nsgid=7\nfsgid=8\n"
@@ -21,6 +22,9 @@ void try_inputs(struct bench *bench)
     static const size_t sheet_length = 212;
     static const uint8_t version_1[12] = {1, 0, 0, 1, 0, 0x20};
     static const uint8_t version_2[20] = {1, 0, 0, 2, 0, 0x20};
+    static const char malformed[] = "cap_kill=e cap_chown";
+    static const uint64_t in_range[URREZKALU_NAMED_VALUES] = {0x1, 0x20, 0x20};
+    static const uint64_t out_of_range[URREZKALU_NAMED_VALUES] = {0, 0, 0x20000000000};
     for (unsigned way = 0; way < 36; way++) {
         try_text(bench, "self-test", 0, (const uint8_t *)plan, sheet_length);
     }
@@ -30,6 +34,9 @@ void try_inputs(struct bench *bench)
     try_attribute(bench, version_1, sizeof version_1);
     try_attribute(bench, version_2, sizeof version_2);
     try_attribute(bench, version_2, sizeof version_2 - 1);
+    try_named_text(bench, "cap_chown=p cap_kill=ei", in_range);
+    try_malformed_text(bench, malformed, sizeof malformed, sizeof malformed - 1);
+    try_sets(bench, out_of_range);
 }
 
 /* What a child has to do: a mishap, or, if there is none, inputs with a fault in that function. */

@@ -1,4 +1,4 @@
-/* The texts of sanitize.c: run as plans, read as sheets; and the values that are read, written again. */
+/* The texts of sanitize.c: run as plans, read as sheets and as texts in names; and the values that are read of a sheet, written again. */
 #include "sanitize.h"
 
 #include <string.h>
@@ -85,6 +85,7 @@ void try_text(struct bench *bench, const char *name, size_t position, const uint
 {
     struct trial running;
     struct trial reading;
+    struct trial naming;
     say_where(name, position);
     bench->texts++;
     lay_down(bench, text, text_length);
@@ -93,6 +94,10 @@ void try_text(struct bench *bench, const char *name, size_t position, const uint
     }
     size_t sheet_length = length_of_sheet(text, text_length);
     expect(bench, reading.number == sheet_number(running.number, text_length > sheet_length), "the whole text is not read as the runner reads it");
+    /* A first line that is a sheet's begins with a letter with which nothing in names begins. */
+    if (try_function(bench, &naming, READ_NAMES) && urrezkalu_line(running.number) != 1) {
+        expect(bench, naming.number == (uint64_t)URREZKALU_MALFORMED << 32, "a sheet's first line is read in names");
+    }
     if (sheet_length != 0) {
         try_sheet(bench, text, sheet_length, running.number);
     }

@@ -1,7 +1,7 @@
 //! The C interface itself, as safe functions on slices: for tests and comparisons, which look at the very number and at every place of a buffer.
 //!
-//! A number is the code times 4294967296, plus the line of a fault (70) or how many bytes or values were written (0). A function that refuses
-//! writes nothing, and what a buffer holds past what was written stays.
+//! A number is the code times 4294967296, plus the line or the place of a fault (70) or how many bytes or values were written (0). A function that
+//! refuses writes nothing, and what a buffer holds past what was written stays.
 
 mod c {
     // A slice of Rattle is a pointer and a length.
@@ -26,6 +26,14 @@ mod c {
             effective: u64,
             attribute: *mut u8,
             attribute_length: usize,
+        ) -> u64;
+        pub fn urrezkalu_read_names(text: *const u8, text_length: usize, values: *mut u64, values_count: usize) -> u64;
+        pub fn urrezkalu_write_names(
+            permitted: u64,
+            inheritable: u64,
+            effective: u64,
+            text: *mut u8,
+            text_length: usize,
         ) -> u64;
     }
 }
@@ -117,4 +125,34 @@ pub fn read_attribute(attribute: &[u8], values: &mut [u64]) -> u64 {
 #[must_use]
 pub fn write_attribute(permitted: u64, inheritable: u64, effective: u64, attribute: &mut [u8]) -> u64 {
     unsafe { c::urrezkalu_write_attribute(permitted, inheritable, effective, attribute.as_mut_ptr(), attribute.len()) }
+}
+
+/// `urrezkalu_read_names`: 70 and the place, 28 where there are fewer than three values, or 0 and 3. See [`crate::read_names`].
+///
+/// ```
+/// let mut values = [99; 4];
+/// assert_eq!(urrezkalu::interface::read_names(b"cap_net_raw+ep", &mut values), 3);
+/// assert_eq!(values, [1 << 13, 0, 1 << 13, 99]);
+///
+/// assert_eq!(urrezkalu::interface::read_names(b"cap_net_raw", &mut values), 70 << 32 | 11);
+/// assert_eq!(urrezkalu::interface::read_names(b"cap_net_raw+ep", &mut [0; 2]), 28 << 32);
+/// ```
+#[must_use]
+pub fn read_names(text: &[u8], values: &mut [u64]) -> u64 {
+    unsafe { c::urrezkalu_read_names(text.as_ptr(), text.len(), values.as_mut_ptr(), values.len()) }
+}
+
+/// `urrezkalu_write_names`: 22, 28, or 0 and the text's length. See [`crate::write_names`].
+///
+/// ```
+/// let mut text = [0xff; 15];
+/// assert_eq!(urrezkalu::interface::write_names(1 << 13, 0, 1 << 13, &mut text), 14);
+/// assert_eq!(text, *b"cap_net_raw=ep\xff");
+///
+/// assert_eq!(urrezkalu::interface::write_names(0, 0, 1 << 41, &mut text), 22 << 32);
+/// assert_eq!(urrezkalu::interface::write_names(1 << 13, 0, 1 << 13, &mut text[..13]), 28 << 32);
+/// ```
+#[must_use]
+pub fn write_names(permitted: u64, inheritable: u64, effective: u64, text: &mut [u8]) -> u64 {
+    unsafe { c::urrezkalu_write_names(permitted, inheritable, effective, text.as_mut_ptr(), text.len()) }
 }

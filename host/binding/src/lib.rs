@@ -1,9 +1,11 @@
-//! The proved library, as safe Rust functions: plans, credential sheets and file attributes.
+//! The proved library, as safe Rust functions: plans, credential sheets, file attributes, and capability sets in names.
 //!
 //! - A plan is a credential sheet and 0 to 256 steps, each a call that a thread makes. [`run_plan`] says what the calls answer and what the thread
 //!   holds after them, or why the plan is refused.
 //! - A sheet is the text of a thread's credentials: [`read_sheet`] and [`write_sheet`].
 //! - An attribute is the bytes of a file's security.capability: [`read_attribute`] and [`write_attribute`].
+//! - A text in names stands for three capability sets, in the form of cap_text_formats(7), as `cap_net_raw+ep` does: [`read_names`] and
+//!   [`write_names`].
 //!
 //! Every input gets an answer; nothing panics and nothing is allocated. Nothing is kept from one call to the next, so that any number of threads
 //! may call at once. A plan's run needs some 4.5 KiB of stack, the other functions less than 1.5 KiB.
@@ -31,6 +33,7 @@
 mod attribute;
 mod credentials;
 pub mod interface;
+mod names;
 mod number;
 mod plan;
 mod sheet;
@@ -40,5 +43,6 @@ pub use attribute::{
     FILE_VALUES,
 };
 pub use credentials::{Credentials, SHEET_VALUES};
+pub use names::{read_names, write_names, NamedSets, NamesReading, NamesWriting, LONGEST_NAMES, NAMED_VALUES};
 pub use plan::{run_plan, Outcome, LONGEST_PLAN, LONGEST_REPORT};
 pub use sheet::{read_sheet, write_sheet, SheetReading, SheetWriting, LONGEST_SHEET};

@@ -1,4 +1,4 @@
-//! The number of the C interface: the code times 2^32, plus the line of a fault, or plus how much was written.
+//! The number of the C interface: the code times 2^32, plus the line or the place of a fault, or plus how much was written.
 
 pub(crate) const DONE: u32 = 0;
 pub(crate) const OUT_OF_RANGE: u32 = 22;
@@ -7,7 +7,7 @@ pub(crate) const UNREADABLE: u32 = 60;
 pub(crate) const MALFORMED: u32 = 70;
 pub(crate) const INVALID: u32 = 72;
 
-/// The code, and the line or length.
+/// The code, and the line, place or length.
 pub(crate) const fn apart(number: u64) -> (u32, u32) {
     ((number >> 32) as u32, number as u32)
 }
