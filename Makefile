@@ -1,9 +1,10 @@
 # The commands of README.md.
-.PHONY: test run library compare mutants bench turns kernel root
+.PHONY: test run library compare mutants libcap bench turns kernel root
 SHELL := /bin/bash
 .SHELLFLAGS := -o pipefail -euc
 
-# How many plans, and how many sheets and attributes, `make compare` runs; and what `make kernel` is told besides (docs/KERNEL.md).
+# How many plans, how many sheets and attributes, and the names of how many seeds `make compare` runs; and what `make kernel` (docs/KERNEL.md) and
+# `make libcap` (docs/LIBCAP.md) are told besides.
 N = 1000000
 OPTIONS =
 
@@ -33,7 +34,7 @@ library:
 	@echo 'make library: proving and building the library' >&2
 	@rt staticlib capi >&2
 
-# The library and the second program on N plans, and on N sheets and attributes.
+# The library and the second program on N plans, on N sheets and attributes, and on 10 N texts in names and 2 N times three sets.
 compare: library
 	@$(CARGO_RUN) -p compare -- --count $(N)
 
@@ -41,7 +42,11 @@ compare: library
 mutants: library
 	@host/tests/mutants
 
-# The library's speed beside the second program's.
+# Texts in names read and written by the system's libcap, laid beside the library's.
+libcap: library
+	@$(CARGO_RUN) -p libcap -- $(OPTIONS)
+
+# The library's speed beside the second program's, and in names beside libcap's.
 bench: library
 	@$(CARGO_RUN) -p bench
 

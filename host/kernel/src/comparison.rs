@@ -2,7 +2,7 @@
 
 use crate::calls::perform;
 use crate::credentials::{Outcome, Thread, SECBITS_OF_THE_PAPER};
-use crate::departures::{Switches, ALL};
+use crate::departures::Switches;
 use crate::harness::Observation;
 use crate::prediction;
 use crate::step::{Plan, Step};
@@ -65,19 +65,7 @@ fn compare_step(known: Switches, before: &Thread, step: &Step, observed: &Outcom
     if observed.agrees(&library) {
         return Ok(Verdict::Agreed);
     }
-    Ok(Verdict::Explained(explanation(known, before, step, observed)))
-}
-
-/// The fewest switches, in the sense that none can be spared, with which the model gives what was observed.
-fn explanation(known: Switches, before: &Thread, step: &Step, observed: &Outcome) -> Switches {
-    ALL.into_iter().fold(known, |kept, departure| {
-        let fewer = kept.without(departure);
-        if perform(fewer, before, step).agrees(observed) {
-            fewer
-        } else {
-            kept
-        }
-    })
+    Ok(Verdict::Explained(known.fewest(|fewer| perform(fewer, before, step).agrees(observed))))
 }
 
 fn whole(plan: &Plan, seen: &Observation, verdicts: &[Verdict]) -> Result<(), Fault> {

@@ -1,31 +1,7 @@
 //! The named departures: where the kernel is known to do something else than the paper says. Each is a switch of the model in `launching`,
 //! `attribute` and `calls`: with all switches off the model is the paper, with all on it is the kernel. docs/KERNEL.md has each rule in full.
 
-/// Declares the departures, the list of them and their names from one list.
-macro_rules! departures {
-    ($($(#[$what:meta])* $departure:ident $name:literal,)*) => {
-        /// One departure of the kernel from the paper.
-        #[derive(Clone, Copy, Debug, PartialEq, Eq)]
-        #[repr(u32)]
-        pub enum Departure {
-            $($(#[$what])* $departure,)*
-        }
-
-        /// Every departure, in the order of the paper's sections.
-        pub const ALL: [Departure; [$($name),*].len()] = [$(Departure::$departure),*];
-
-        impl Departure {
-            /// The departure's name, as docs/KERNEL.md has it.
-            pub fn name(self) -> &'static str {
-                match self {
-                    $(Departure::$departure => $name,)*
-                }
-            }
-        }
-    };
-}
-
-departures! {
+departures::departures! {
     /// A set-group-ID bit for another group that the thread is in leaves the ambient set.
     SetGroupIdToMemberGroup "set-group-id-to-member-group",
     /// A set-group-ID bit of a file that its group may not execute is ignored.
@@ -80,49 +56,4 @@ departures! {
     SetresuidWithoutChange "setresuid-without-change",
     /// setresgid that changes none of its three IDs leaves the filesystem group.
     SetresgidWithoutChange "setresgid-without-change",
-}
-
-/// Which departures are switched on.
-#[derive(Clone, Copy, Debug, PartialEq, Eq)]
-pub struct Switches(u32);
-
-impl Switches {
-    /// The paper.
-    pub const NONE: Switches = Switches(0);
-    /// The kernel.
-    pub const EVERY: Switches = Switches((1 << ALL.len()) - 1);
-
-    /// Whether the departure is switched on.
-    pub fn on(self, departure: Departure) -> bool {
-        self.0 >> departure as u32 & 1 == 1
-    }
-
-    /// The same with one departure switched off.
-    pub fn without(self, departure: Departure) -> Switches {
-        Switches(self.0 & !(1 << departure as u32))
-    }
-
-    /// The same with the named departure switched off, or nothing where none has that name.
-    pub fn without_named(self, name: &str) -> Option<Switches> {
-        ALL.iter().find(|departure| departure.name() == name).map(|&departure| self.without(departure))
-    }
-
-    /// The departures that are switched on.
-    pub fn departures(self) -> impl Iterator<Item = Departure> {
-        ALL.into_iter().filter(move |&departure| self.on(departure))
-    }
-}
-
-#[cfg(test)]
-mod tests {
-    use super::*;
-
-    #[test]
-    fn every_departure_stands_at_its_place() {
-        for (place, departure) in ALL.into_iter().enumerate() {
-            assert_eq!(departure as usize, place, "{}", departure.name());
-        }
-        assert!(Switches::EVERY.departures().eq(ALL));
-        assert_eq!(Switches::NONE.departures().count(), 0);
-    }
 }

@@ -2,7 +2,7 @@
 //!
 //! [`generated`] gives the text of any kind: plans that run, with the calls and operands that the rules tell apart; plans whose start is
 //! invalid; texts that are no plans. [`input`] gives what the readers and writers of sheets and attributes are asked. [`named_text`] gives texts
-//! in names and [`named_sets`] sets to be written in names. [`measured`] gives plans of a fixed number of steps, to take times by. The same seed
+//! in names, [`libcap_text`] those for libcap, and [`named_sets`] sets to be written in names. [`measured`] gives plans of a fixed number of steps, to take times by. The same seed
 //! gives the same.
 
 #![deny(missing_docs)]
@@ -19,7 +19,7 @@ mod text;
 
 pub use broken::Fault;
 pub use inputs::{input, values, Input, Operands, VALUES};
-pub use names::{named_sets, named_text, NameFault, NamedKind, NamedText, CAPABILITY_NAMES};
+pub use names::{libcap_text, named_sets, named_text, NameFault, NamedKind, NamedText, CAPABILITY_NAMES};
 pub use text::{write_result, write_sheet, write_step};
 
 use random::Random;

@@ -3,11 +3,13 @@
 mod broken;
 mod clauses;
 mod fault;
+mod libcap;
 mod spelling;
 mod three_sets;
 mod words;
 
 pub use fault::NameFault;
+pub use libcap::libcap_text;
 pub use three_sets::named_sets;
 pub use words::CAPABILITY_NAMES;
 

@@ -1,17 +1,9 @@
 //! A build of the library, loaded while this program runs, so that two can be held beside each other.
 
-use std::ffi::{c_char, c_int, c_void, CStr, CString};
+use objects::Object;
+use std::ffi::{c_void, CString};
 use std::os::unix::ffi::OsStrExt;
 use std::path::Path;
-
-extern "C" {
-    fn dlopen(path: *const c_char, flags: c_int) -> *mut c_void;
-    fn dlsym(handle: *mut c_void, name: *const c_char) -> *mut c_void;
-    fn dlerror() -> *const c_char;
-}
-
-/// Every name is looked up at once; no other object sees this one's names.
-const RTLD_NOW: c_int = 2;
 
 type OfText = unsafe extern "C" fn(*const u8, usize, *mut u8, usize) -> u64;
 type ReadSheet = unsafe extern "C" fn(*const u8, usize, *mut u64, usize) -> u64;
@@ -27,37 +19,10 @@ pub struct Library {
     write_digits: OfValues,
 }
 
-fn last_error() -> String {
-    // SAFETY: dlerror gives null or a text that stays until the next call of these functions.
-    unsafe {
-        let text = dlerror();
-        if text.is_null() {
-            "unknown error".into()
-        } else {
-            CStr::from_ptr(text).to_string_lossy().into_owned()
-        }
-    }
-}
-
-fn load(path: &Path) -> Result<*mut c_void, String> {
+fn load(path: &Path) -> Result<Object, String> {
     let name = CString::new(path.as_os_str().as_bytes()).map_err(|_| "a path with a NUL".to_string())?;
-    // SAFETY: the name ends in a NUL, and the objects have no code that runs on loading.
-    let handle = unsafe { dlopen(name.as_ptr(), RTLD_NOW) };
-    if handle.is_null() {
-        Err(last_error())
-    } else {
-        Ok(handle)
-    }
-}
-
-fn symbol(handle: *mut c_void, name: &CStr) -> Result<*mut c_void, String> {
-    // SAFETY: the handle is one that dlopen gave and that is never closed.
-    let address = unsafe { dlsym(handle, name.as_ptr()) };
-    if address.is_null() {
-        Err(last_error())
-    } else {
-        Ok(address)
-    }
+    // SAFETY: the objects have no code that runs on loading.
+    unsafe { Object::load(&name) }
 }
 
 impl Library {
@@ -69,11 +34,11 @@ impl Library {
         // SAFETY: these are the functions' types in include/urrezkalu.h and in digits/; a slice is a pointer and a length.
         unsafe {
             Ok(Library {
-                run_plan: std::mem::transmute::<*mut c_void, OfText>(symbol(library, c"urrezkalu_run_plan")?),
-                read_sheet: std::mem::transmute::<*mut c_void, ReadSheet>(symbol(library, c"urrezkalu_read_sheet")?),
-                write_sheet: std::mem::transmute::<*mut c_void, OfValues>(symbol(library, c"urrezkalu_write_sheet")?),
-                read_digits: std::mem::transmute::<*mut c_void, ReadDigits>(symbol(digits, c"digits_read")?),
-                write_digits: std::mem::transmute::<*mut c_void, OfValues>(symbol(digits, c"digits_write")?),
+                run_plan: std::mem::transmute::<*mut c_void, OfText>(library.symbol(c"urrezkalu_run_plan")?),
+                read_sheet: std::mem::transmute::<*mut c_void, ReadSheet>(library.symbol(c"urrezkalu_read_sheet")?),
+                write_sheet: std::mem::transmute::<*mut c_void, OfValues>(library.symbol(c"urrezkalu_write_sheet")?),
+                read_digits: std::mem::transmute::<*mut c_void, ReadDigits>(digits.symbol(c"digits_read")?),
+                write_digits: std::mem::transmute::<*mut c_void, OfValues>(digits.symbol(c"digits_write")?),
             })
         }
     }

@@ -1,0 +1,121 @@
+//! Named departures: where another program is known to do something else than the proved library does.
+//!
+//! Each is a switch of a model. With all switches off the model is the library, with all on it is the other program, so that a difference between
+//! the two is explained exactly by the switches that it takes.
+
+#![deny(missing_docs)]
+
+/// Declares the departures of one program from one list: the enum `Departure`, the array `ALL`, their names, and `Switches`, which of them are on.
+///
+/// ```
+/// departures::departures! {
+///     /// It reads a tab as a space.
+///     TabIsSpace "tab-is-space",
+///     /// It reads no empty text.
+///     NothingRefused "nothing-refused",
+/// }
+///
+/// let known = Switches::EVERY;
+/// assert_eq!(ALL.map(Departure::name), ["tab-is-space", "nothing-refused"]);
+/// assert!(known.on(Departure::TabIsSpace) && !Switches::NONE.on(Departure::TabIsSpace));
+///
+/// // A difference that the second alone explains.
+/// let explanation = known.fewest(|switches| switches.on(Departure::NothingRefused));
+/// assert!(explanation.departures().eq([Departure::NothingRefused]));
+/// assert_eq!(known.without_named("tab-is-space"), Some(explanation));
+/// assert_eq!(known.without_named("tabs"), None);
+/// ```
+#[macro_export]
+macro_rules! departures {
+    ($($(#[$what:meta])* $departure:ident $name:literal,)*) => {
+        /// One departure.
+        #[derive(Clone, Copy, Debug, PartialEq, Eq)]
+        #[repr(u32)]
+        pub enum Departure {
+            $($(#[$what])* $departure,)*
+        }
+
+        /// Every departure, in the order in which they are declared.
+        pub const ALL: [Departure; [$($name),*].len()] = [$(Departure::$departure),*];
+
+        impl Departure {
+            /// The departure's name, as the documents have it.
+            pub fn name(self) -> &'static str {
+                match self {
+                    $(Departure::$departure => $name,)*
+                }
+            }
+        }
+
+        /// Which departures are switched on.
+        #[derive(Clone, Copy, Debug, PartialEq, Eq)]
+        pub struct Switches(u32);
+
+        impl Switches {
+            /// None: what the library does.
+            pub const NONE: Switches = Switches(0);
+            /// All: what the other program does.
+            pub const EVERY: Switches = Switches((1 << ALL.len()) - 1);
+
+            /// Whether the departure is switched on.
+            pub fn on(self, departure: Departure) -> bool {
+                self.0 >> departure as u32 & 1 == 1
+            }
+
+            /// The same with one departure switched off.
+            pub fn without(self, departure: Departure) -> Switches {
+                Switches(self.0 & !(1 << departure as u32))
+            }
+
+            /// The same with the named departure switched off, or nothing where none has that name.
+            pub fn without_named(self, name: &str) -> Option<Switches> {
+                ALL.iter().find(|departure| departure.name() == name).map(|&departure| self.without(departure))
+            }
+
+            /// The fewest of these switches, in the sense that none can be spared, that explain something. All of these have to.
+            pub fn fewest(self, explain: impl Fn(Switches) -> bool) -> Switches {
+                ALL.into_iter().fold(self, |kept, departure| {
+                    let fewer = kept.without(departure);
+                    if explain(fewer) {
+                        fewer
+                    } else {
+                        kept
+                    }
+                })
+            }
+
+            /// The departures that are switched on.
+            pub fn departures(self) -> impl Iterator<Item = Departure> {
+                ALL.into_iter().filter(move |&departure| self.on(departure))
+            }
+        }
+    };
+}
+
+#[cfg(test)]
+mod tests {
+    crate::departures! {
+        One "one",
+        Other "other",
+        Third "third",
+    }
+
+    #[test]
+    fn every_departure_stands_at_its_place() {
+        for (place, departure) in ALL.into_iter().enumerate() {
+            assert_eq!(departure as usize, place, "{}", departure.name());
+        }
+        assert!(Switches::EVERY.departures().eq(ALL));
+        assert_eq!(Switches::NONE.departures().count(), 0);
+    }
+
+    #[test]
+    fn what_can_be_spared_is_left_out() {
+        let known = Switches::EVERY;
+        let of_two = |switches: Switches| switches.on(Departure::One) && switches.on(Departure::Third);
+        assert_eq!(Some(known.fewest(of_two)), known.without_named("other"));
+        let either = |switches: Switches| switches.on(Departure::One) || switches.on(Departure::Other);
+        assert!(known.fewest(either).departures().eq([Departure::Other]));
+        assert_eq!(known.fewest(|_| true), Switches::NONE);
+    }
+}
