@@ -23,7 +23,7 @@ pub record RowAt (xs : List Row) (k p : ℕ) (table : List ℕ) : Type 0 where
 
 module _ (table : List ℕ) where
   -- one entry and those behind it
-  entry : (p : ℕ) (a : ℕ) (l : List ℕ) → drop p table ≡ a ∷ l → (getD table p 0 ≡ a) × (drop (p + 1) table ≡ l) × (p < length table)
+  pub entry : (p : ℕ) (a : ℕ) (l : List ℕ) → drop p table ≡ a ∷ l → (getD table p 0 ≡ a) × (drop (p + 1) table ≡ l) × (p < length table)
   entry p a l f =
       let s : length table - p ≡ suc (length l) = sym (length-drop p table) ∙ ap length f in
       let g : getD table p 0 ∷ drop (suc p) table ≡ a ∷ l = sym (drop-cons table p 0 (omega arith)) ∙ f in

@@ -1,5 +1,5 @@
 -- How far a word and a text agree. Assumes nothing.
-use mathlib.Core.Path.{_≡_, refl, sym, ap}
+use mathlib.Core.Path.{_≡_, refl}
 use mathlib.Core.List.{List, [], _∷_}
 use mathlib.Core.Bool.{Bool, true, false, cond}
 use Prim.Native.Nat.{ℕ, suc, _+_, _≤_, _<_}
@@ -8,9 +8,9 @@ use native.Mathlib.Omega.{arith}
 use lib.Dec.{eqb}
 use lib.ListN.{length, drop, getD, take, drop-of-length-le}
 use lib.Seq.{drop-cons}
-use borrow.Author.Tests.{eqb-true, ne-eqb}
+use borrow.Author.Tests.{eqb-true}
 use Rattle.names.specs.Grammar.{lower, lowered}
-use Rattle.names_reader.specs.Inside.{common, firstOf}
+use Rattle.names_reader.specs.Inside.{common}
 
 pub common-step : (key text : List ℕ) (k i j n : ℕ) → k < length key → i < length text → j ≡ i + 1
     → n + common (drop k key) (drop i text) ≡ cond (eqb (lower (getD text i 0)) (getD key k 0)) (n + 1 + common (drop (k + 1) key) (drop j text)) n
@@ -55,16 +55,3 @@ common-whole (k ∷ ks) (b ∷ t) h = by-test (eqb (lower b) k) refl h (common-w
         → lower b ∷ lowered (take (length ks) t) ≡ k ∷ ks
     by-test true e g f = rw (eqb-true (lower b) k e, f (omega arith))
     by-test false e g f = absurd (omega arith)
-
--- a word that begins with another byte
-pub common-other : (w t : List ℕ) → 0 < length w → (getD w 0 0 ≡ firstOf t → ⊥) → common w t ≡ 0
-unfolding common
-common-other [] t h n = absurd (omega arith)
-common-other (k ∷ ks) [] h n = refl
-common-other (k ∷ ks) (b ∷ t) h n = rw (ne-eqb (lower b) k (λ e. n (sym e)))
-
-pub first-cons : (text : List ℕ) (i : ℕ) → i < length text → firstOf (drop i text) ≡ lower (getD text i 0)
-first-cons text i h = ap firstOf (drop-cons text i 0 h)
-
-pub first-nil : (text : List ℕ) (i : ℕ) → length text ≤ i → firstOf (drop i text) ≡ 0
-first-nil text i h = ap firstOf (drop-of-length-le text h)

@@ -24,10 +24,10 @@ use Rattle.names_reader.specs.declared.Subject.{Subject}
 use Rattle.names_reader.specs.declared.Subject.the-variants.{Of}
 use Rattle.names_reader.specs.declared.Subject.the-variants as SV
 use Rattle.names.specs.Inside.{Row, row, rowsFrom}
-use Rattle.names_reader.specs.Inside.{from, readAt, common, rows, find, NameTold, NameEnd, NamesTold, SubjectEnd, operates}
+use Rattle.names_reader.specs.Inside.{from, readAt, common, rows, OneOf, find, Found, NameTold, NameEnd, NamesTold, SubjectEnd, operates}
 use Rattle.names_reader.proofs.Steps.{read-go, read-stuck, read-end, read-same, done-operator, done-comma, done-stuck}
 use Rattle.names_reader.proofs.Common.{common-nil, common-le, common-whole}
-use Rattle.names_reader.proofs.Rows.{OneOf, furthest, NoneAt, sorted-missing, sorted-found}
+use Rattle.names_reader.proofs.Rows.{furthest, NoneAt, sorted-missing, one-sorted}
 
 -- ---- a word that stands there is read
 
@@ -221,18 +221,16 @@ module _ (text : List ℕ) (at : ℕ) where
       ∙ ap (λ (n : ℕ). Malformed (at + n)) (rows-more (drop at text) h ∙ ap (λ (u : List ℕ). 4 + furthest unsorted u) d)
       ∙ ap Malformed (sym k))
 
-  found : (n next : ℕ) → find (at + 4) 0 rows (drop (at + 4) text) ≡ Is n next
-      → (w : List ℕ) × (spelt (cap ++ w) (single n) true among names) × (common w (drop (at + 4) text) ≡ length w) × (next ≡ at + 4 + length w)
+  row-named : (w : List ℕ) (n : ℕ) → OneOf (row w n) rows → spelt (cap ++ w) (single n) true among names
   unfolding rows
-  found n next e =
-      let (w, o, a, b) = sorted-found (at + 4) unsorted (drop (at + 4) text) n next e in
-      (w, rw names-worded (one-among w n unsorted o), a, b)
+  row-named w n o = rw names-worded (one-among w n unsorted (one-sorted (row w n) unsorted o))
 
-  name-found : (n next : ℕ) → common cap (drop at text) ≡ 4 → find (at + 4) 0 rows (drop (at + 4) text) ≡ Is n next → NameTold (Is n next) text at
+  name-found : (n next : ℕ) → common cap (drop at text) ≡ 4 → Found (Is n next) (at + 4) (drop (at + 4) text) → NameTold (Is n next) text at
   unfolding readAt
   name-found n next h e c s =
       let t = drop at text in
-      let (v, g, u, z) = found n next e in
+      let (v, o, u, z) = e in
+      let g = row-named v n o in
       let w = cap ++ v in
       let k = length w in
       let q : k ≡ 4 + length v = length-append cap v in
@@ -246,14 +244,14 @@ module _ (text : List ℕ) (at : ℕ) where
       ∙ from-from at (length (take k t)) (run (word (afters (lowered (take k t)) names) c s) (drop k t))
       ∙ rw (l, y, alone-names w (single n) true g, drop-drop k at text, ← m))
 
-  name-ends : (n next : ℕ) → common cap (drop at text) ≡ 4 → find (at + 4) 0 rows (drop (at + 4) text) ≡ Is n next → (at ≤ next) × (next ≤ length text)
+  name-ends : (n next : ℕ) → common cap (drop at text) ≡ 4 → Found (Is n next) (at + 4) (drop (at + 4) text) → (at ≤ next) × (next ≤ length text)
   name-ends n next h e =
-      let (w, g, u, v) = found n next e in
+      let (w, o, u, v) = e in
       let a = common-le w (drop (at + 4) text) .1 in
       let b = common-le cap (drop at text) .1 in
       (omega arith, omega (arith, length-drop (at + 4) text, length-drop at text))
 
-  pub name-told : (x : Name) → common cap (drop at text) ≡ 4 → find (at + 4) 0 rows (drop (at + 4) text) ≡ x → NameTold x text at × NameEnd x at text
+  pub name-told : (x : Name) → common cap (drop at text) ≡ 4 → Found x (at + 4) (drop (at + 4) text) → NameTold x text at × NameEnd x at text
   name-told (Is n next) h e = (name-found n next h e, name-ends n next h e)
   name-told (Missing p) h e = (name-missing p h e, tt)
 

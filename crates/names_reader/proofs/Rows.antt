@@ -1,18 +1,21 @@
 -- The rows of the table: sorted and searched. Assumes nothing.
-use mathlib.Core.Path.{_≡_, refl, ap, _∙_}
+use mathlib.Core.Path.{_≡_, refl, sym, ap, _∙_}
 use mathlib.Core.Logic.{_⊎_, inl, inr}
-use mathlib.Core.List.{List, [], _∷_}
+use mathlib.Core.List.{List, [], _∷_, _++_, append-assoc}
 use mathlib.Core.Bool.{Bool, true, false, cond, _&&_}
-use Prim.Native.Nat.{ℕ, zero, suc, _+_, _-_, _<_, max}
+use Prim.Native.Nat.{ℕ, zero, suc, _+_, _-_, _*_, _≤_, _<_, max}
+use native.Mathlib.Numerals.{add-one}
 use native.Mathlib.Omega.{arith}
-use borrow.Author.Tests.{ltb-true, eqb-true, eqb-false}
-use lib.Dec.{eqb, ltb}
-use lib.ListN.{length, drop}
+use borrow.Author.Tests.{leb-true, eqb-true, eqb-false}
+use lib.Dec.{eqb, leb, ltb}
+use lib.ListN.{length, drop, getD, take, replicate, length-append, length-drop, length-replicate, drop-of-length-le}
+use lib.Seq.{drop-cons, drop-drop, take-append-seam, drop-append-seam}
 use Rattle.capabilities.proofs.Inclusion.{and-l, and-r}
-use Rattle.names.proofs.Rows.{RowAt}
+use Rattle.names.proofs.Rows.{entry}
+use Rattle.names_reader.specs.declared.Name.{Name}
 use Rattle.names_reader.specs.declared.Name.the-variants.{Is, Missing}
 use Rattle.names.specs.Inside.{Row, row}
-use Rattle.names_reader.specs.Inside.{size, putIn, byLength, rows, common, find}
+use Rattle.names_reader.specs.Inside.{size, textOf, numberOf, putIn, byLength, rows, rowAt, OneOf, cell, padded, common, find, Found}
 
 -- ---- the table
 
@@ -20,48 +23,105 @@ pub rows-length : length rows ≡ 41
 unfolding rows
 rows-length = refl
 
--- no row is empty
-filled : List Row → Bool
-filled [] = true
-filled (row w n ∷ xs) = ltb 0 (length w) && filled xs
+-- no name is longer than a row has room for
+fits : List Row → Bool
+fits [] = true
+fits (x ∷ xs) = leb (size x) 18 && fits xs
 
-rows-filled : filled rows ≡ true
-unfolding filled rows
-rows-filled = refl
+rows-fit : fits rows ≡ true
+unfolding fits rows
+rows-fit = refl
 
-filled-drop : (xs : List Row) (k : ℕ) → filled xs ≡ true → filled (drop k xs) ≡ true
-unfolding filled
-filled-drop xs zero h = h
-filled-drop [] (suc k) h = h
-filled-drop (row w n ∷ xs) (suc k) h = filled-drop xs k (and-r (ltb 0 (length w)) (filled xs) h)
+cell-length : (w : List ℕ) → length w ≤ 18 → length (cell w) ≡ 18
+cell-length w h = let a = length-append w (replicate (18 - length w) 0) in let b = length-replicate {A = ℕ} (18 - length w) 0 in omega arith
 
-pub row-filled : (k p : ℕ) (table : List ℕ) (r : RowAt rows k p table) → 0 < length (r .text)
-unfolding filled
-row-filled k p table r =
-    let h : filled (row (r .text) (r .number) ∷ drop (k + 1) rows) ≡ true = rw (r .rest) at (filled-drop rows k rows-filled) in
-    ltb-true 0 (length (r .text)) (and-l (ltb 0 (length (r .text))) (filled (drop (k + 1) rows)) h)
+drop-nothing : (n : ℕ) → drop {A = ℕ} n [] ≡ []
+drop-nothing n = drop-of-length-le [] {i = n} (omega arith)
+
+-- the rows from number k on stand 20 k bytes further on
+padded-drop : (xs : List Row) (k : ℕ) → fits xs ≡ true → drop (k * 20) (padded xs) ≡ padded (drop k xs)
+unfolding padded fits
+padded-drop xs zero h = refl
+padded-drop [] (suc k) h = drop-nothing (suc k * 20)
+padded-drop (row w n ∷ xs) (suc k) h =
+    let l = cell-length w (leb-true (length w) 18 (and-l (leb (length w) 18) (fits xs) h)) in
+    let e : suc k * 20 ≡ 2 + 18 + k * 20 = omega arith in
+    ap (λ (i : ℕ). drop i (length w ∷ n ∷ (cell w ++ padded xs))) e
+    ∙ sym (drop-drop (k * 20) (2 + 18) (length w ∷ n ∷ (cell w ++ padded xs)))
+    ∙ ap (λ (i : ℕ). drop (k * 20) (drop i (cell w ++ padded xs))) (sym l)
+    ∙ ap (λ (u : List ℕ). drop (k * 20) u) (drop-append-seam (cell w) (padded xs))
+    ∙ padded-drop xs k (and-r (leb (length w) 18) (fits xs) h)
+
+fits-at : (xs : List Row) (k : ℕ) → fits xs ≡ true → k < length xs → size (getD xs k (row [] 0)) ≤ 18
+unfolding fits
+fits-at [] k h g = absurd (omega arith)
+fits-at (x ∷ xs) zero h g = leb-true (size x) 18 (and-l (leb (size x) 18) (fits xs) h)
+fits-at (x ∷ xs) (suc k) h g = fits-at xs k (and-r (leb (size x) 18) (fits xs) h) (omega arith)
+
+-- what stands in the table for the row of number k
+pub record RowIn (table : List ℕ) (k : ℕ) : Type 0 where
+  pub rest : drop k rows ≡ rowAt k ∷ drop (k + 1) rows
+  pub first : getD table (k * 20) 0 ≡ size (rowAt k)
+  pub second : getD table (k * 20 + 1) 0 ≡ numberOf (rowAt k)
+  pub key : (n : ℕ) → n ≡ size (rowAt k) → take n (drop (k * 20 + 2) table) ≡ textOf (rowAt k)
+  pub short : size (rowAt k) ≤ 18
+  pub room : k * 20 + 20 ≤ length table
+
+module _ (table : List ℕ) (k : ℕ) where
+  row-in-of : (x : Row) → x ≡ rowAt k → drop k rows ≡ x ∷ drop (k + 1) rows → size x ≤ 18 → drop (k * 20) table ≡ padded (x ∷ drop (k + 1) rows) → RowIn table k
+  unfolding padded
+  row-in-of (row w n) e d h f =
+      let r = padded (drop (k + 1) rows) in
+      let (a, g, i) = entry table (k * 20) (length w) (n ∷ (cell w ++ r)) f in
+      let (b, y, j) = entry table (k * 20 + 1) n (cell w ++ r) g in
+      let q : k * 20 + 1 + 1 ≡ k * 20 + 2 = omega arith in
+      let z : drop (k * 20 + 2) table ≡ cell w ++ r = ap (λ (i : ℕ). drop i table) (sym q) ∙ y in
+      let v : drop (k * 20 + 2) table ≡ w ++ (replicate (18 - length w) 0 ++ r) = z ∙ append-assoc w (replicate (18 - length w) 0) r in
+      let s : length table - (k * 20 + 2) ≡ 18 + length r = sym (length-drop (k * 20 + 2) table) ∙ ap length z ∙ length-append (cell w) r ∙ ap (λ (i : ℕ). i + length r) (cell-length w h) in
+      record {
+        rest = d ∙ ap (λ (x : Row). x ∷ drop (k + 1) rows) e;
+        first = a ∙ ap size e;
+        second = b ∙ ap numberOf e;
+        key = λ m u. rw (v, u, ← e) (take-append-seam w (replicate (18 - length w) 0 ++ r));
+        short = rw (← e) h;
+        room = omega (arith, j, s);
+      }
+
+  pub row-in : k < 41 → table ≡ padded rows → RowIn table k
+  row-in h e =
+      let g : k < length rows = omega (arith, rows-length) in
+      let d : drop k rows ≡ rowAt k ∷ drop (k + 1) rows = drop-cons rows k (row [] 0) g ∙ ap (λ (i : ℕ). rowAt k ∷ drop i rows) (sym (add-one k)) in
+      row-in-of (rowAt k) refl d (fits-at rows k rows-fit g) (ap (λ (u : List ℕ). drop (k * 20) u) e ∙ padded-drop rows k rows-fit ∙ ap padded d)
+
+one-at : (xs : List Row) (k : ℕ) → k < length xs → OneOf (getD xs k (row [] 0)) xs
+unfolding OneOf
+one-at [] k h = absurd (omega arith)
+one-at (x ∷ xs) zero h = inl refl
+one-at (x ∷ xs) (suc k) h = inr (one-at xs k (omega arith))
+
+row-same : (x : Row) → x ≡ row (textOf x) (numberOf x)
+row-same (row w n) = refl
+
+-- the row of number k is one of them
+pub one-row : (k : ℕ) → k < 41 → OneOf (row (textOf (rowAt k)) (numberOf (rowAt k))) rows
+one-row k h = rw (← row-same (rowAt k)) (one-at rows k (omega (arith, rows-length)))
 
 -- ---- searched
 
-module _ (at best : ℕ) (t w : List ℕ) (n : ℕ) (xs : List Row) where
-  pub find-is : eqb (common w t) (length w) ≡ true → find at best (row w n ∷ xs) t ≡ Is n (at + length w)
-  unfolding find
-  find-is h = rw h
+pub find-is : (at best : ℕ) (t : List ℕ) (x : Row) (xs : List Row) → eqb (common (textOf x) t) (size x) ≡ true → find at best (x ∷ xs) t ≡ Is (numberOf x) (at + size x)
+unfolding find
+find-is at best t (row w n) xs h = rw h
 
-  pub find-next : eqb (common w t) (length w) ≡ false → find at best (row w n ∷ xs) t ≡ find at (max best (common w t)) xs t
-  unfolding find
-  find-next h = rw h
+pub find-next : (at best : ℕ) (t : List ℕ) (x : Row) (xs : List Row) → eqb (common (textOf x) t) (size x) ≡ false
+    → find at best (x ∷ xs) t ≡ find at (max best (common (textOf x) t)) xs t
+unfolding find
+find-next at best t (row w n) xs h = rw h
 
 pub find-end : (at best : ℕ) (t : List ℕ) (xs : List Row) → xs ≡ [] → find at best xs t ≡ Missing (at + best)
 unfolding find
 find-end at best t xs e = rw e
 
 -- ---- what the search tells of all rows, in whatever order
-
--- x is one of these rows
-unfoldable pub OneOf : Row → List Row → Type 0
-OneOf x [] = ⊥
-OneOf x (y ∷ ys) = (x ≡ y) ⊎ OneOf x ys
 
 -- how far a text goes on as any of them does
 unfoldable pub furthest : List Row → List ℕ → ℕ
@@ -144,7 +204,7 @@ one-in x y (z ∷ xs) h = by-test (ltb (size z) (size x)) (one-in x y xs) h
         deeper (inr o) = inr (inr o)
     by-test false f g = g
 
-one-sorted : (y : Row) (xs : List Row) → OneOf y (byLength xs) → OneOf y xs
+pub one-sorted : (y : Row) (xs : List Row) → OneOf y (byLength xs) → OneOf y xs
 unfolding byLength OneOf
 one-sorted y [] h = h
 one-sorted y (x ∷ xs) h = by-case (one-in x y (byLength xs) h) (one-sorted y xs)
@@ -153,15 +213,14 @@ one-sorted y (x ∷ xs) h = by-case (one-in x y (byLength xs) h) (one-sorted y x
     by-case (inl e) f = inl e
     by-case (inr o) f = inr (f o)
 
--- the table's search tells of the rows as they were before they were sorted
+-- what the search gives is found
+pub searched : (at : ℕ) (t : List ℕ) (x : Name) → x ≡ find at 0 rows t → Found x at t
+searched at t (Is n next) h = find-found at 0 rows t n next (sym h)
+searched at t (Missing p) h = sym h
+
+-- what is found tells of the rows as they were before they were sorted
 pub sorted-missing : (at : ℕ) (xs : List Row) (t : List ℕ) (p : ℕ) → find at 0 (byLength xs) t ≡ Missing p → NoneAt xs t × (p ≡ at + furthest xs t)
 sorted-missing at xs t p h =
     let (a, b) = find-missing at 0 (byLength xs) t p h in
     let e = furthest-sorted xs t in
     (none-sorted xs t a, omega arith)
-
-pub sorted-found : (at : ℕ) (xs : List Row) (t : List ℕ) (n next : ℕ) → find at 0 (byLength xs) t ≡ Is n next
-    → (w : List ℕ) × OneOf (row w n) xs × (common w t ≡ length w) × (next ≡ at + length w)
-sorted-found at xs t n next h =
-    let (w, o, a, b) = find-found at 0 (byLength xs) t n next h in
-    (w, one-sorted (row w n) xs o, a, b)

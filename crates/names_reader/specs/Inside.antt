@@ -1,11 +1,12 @@
 -- How the answers of private functions stand for the reading from a position, and the table that names are found by; no public contract cites these.
 -- Assumes nothing.
 use mathlib.Core.Path.{_≡_}
-use Prim.Native.Nat.{ℕ, suc, _+_, max, _≤_, _<_}
-use mathlib.Core.List.{List, [], _∷_}
+use Prim.Native.Nat.{ℕ, suc, _+_, _-_, max, _≤_, _<_}
+use mathlib.Core.Logic.{_⊎_}
+use mathlib.Core.List.{List, [], _∷_, _++_}
 use mathlib.Core.Bool.{Bool, true, cond, _||_}
 use lib.Dec.{eqb, ltb}
-use lib.ListN.{length, drop}
+use lib.ListN.{length, drop, getD, replicate}
 use Rattle.capabilities.specs.Sets.{single, union}
 use Rattle.names.specs.declared.Sets.{Sets}
 use Rattle.names.specs.declared.Reading.{Reading}
@@ -95,9 +96,15 @@ NameEnd (NV.Missing n) at text = Unit
 
 -- ---- the table
 
--- how long a row's name is
+-- a row's name behind `cap_`, how long that is, and its number
+abbrev pub textOf : Row → List ℕ
+textOf (row w n) = w
+
 abbrev pub size : Row → ℕ
-size (row w n) = length w
+size x = length (textOf x)
+
+abbrev pub numberOf : Row → ℕ
+numberOf (row w n) = n
 
 -- a row put before the first that is no shorter
 unfoldable pub putIn : Row → List Row → List Row
@@ -114,18 +121,35 @@ unfoldable pub rows : List Row
 unfolding byLength putIn rowsFrom capabilityNames
 rows = byLength (rowsFrom 0 capabilityNames)
 
+abbrev pub rowAt : ℕ → Row
+rowAt k = getD rows k (row [] 0)
+
+-- x is one of these rows
+unfoldable pub OneOf : Row → List Row → Type 0
+OneOf x [] = ⊥
+OneOf x (y ∷ ys) = (x ≡ y) ⊎ OneOf x ys
+
+-- a name with as many zeros as make it 18 bytes
+abbrev pub cell : List ℕ → List ℕ
+cell w = w ++ replicate (18 - length w) 0
+
+-- rows one behind the other, of 20 bytes each: length, number, name and zeros
+unfoldable pub padded : List Row → List ℕ
+padded [] = []
+padded (row w n ∷ xs) = length w ∷ n ∷ (cell w ++ padded xs)
+
 -- how many bytes of a word stand at the front of a text, in either case
 unfoldable pub common : List ℕ → List ℕ → ℕ
 common [] t = 0
 common (k ∷ ks) [] = 0
 common (k ∷ ks) (b ∷ t) = cond (eqb (lower b) k) (suc (common ks t)) 0
 
--- the first byte of a text in lower case, and 0 where there is none
-abbrev pub firstOf : List ℕ → ℕ
-firstOf [] = 0
-firstOf (b ∷ t) = lower b
-
 -- the first of these rows at the front of a text, which stands at a position; or how far the text goes on as any does
 unfoldable pub find : ℕ → ℕ → List Row → List ℕ → N.Name
 find at best [] t = NV.Missing (at + best)
 find at best (row w n ∷ xs) t = cond (eqb (common w t) (length w)) (Is n (at + length w)) (find at (max best (common w t)) xs t)
+
+-- what is found at the front of a text, which stands at a position: a row; or, where no row is there, how far the text goes on as any does
+abbrev pub Found : N.Name → ℕ → List ℕ → Type 0
+Found (Is n next) at t = (w : List ℕ) × OneOf (row w n) rows × (common w t ≡ length w) × (next ≡ at + length w)
+Found (NV.Missing p) at t = find at 0 rows t ≡ NV.Missing p

@@ -5,8 +5,7 @@ ghost use Prim.Native.Nat.{_<_};
 ghost use lib.ListN.{length, getD};
 ghost use Rattle.names.specs.Grammar.{blank, changed, flagged, without};
 ghost use Rattle.names.specs.Reading.{gap, operated};
-ghost use Rattle.names.specs.Inside.{flat};
-ghost use Rattle.names_reader.specs.Inside.{begun, ClauseEnd, clauseRead, OperatorsEnd, readAt, rows};
+ghost use Rattle.names_reader.specs.Inside.{begun, ClauseEnd, clauseRead, OperatorsEnd, padded, readAt, rows};
 use crate::Clause;
 use crate::Subject;
 use crate::bytes::DASH;
@@ -21,11 +20,11 @@ use capabilities::sets::difference;
 use names::Sets;
 
 // The clause at the position at, and the blank that ends it.
-pub(crate) fn clause_at(text: &[u8], at: usize, table: &[u8], s: Sets) -> Clause
-    requires { ⌜ (at < length (now text)) × (blank (getD (now text) at 0) ≡ false) × (now table ≡ flat rows) ⌝ }
+pub(crate) fn clause_at(text: &[u8], at: usize, table: &[u8], index: &[u8], s: Sets) -> Clause
+    requires { ⌜ (at < length (now text)) × (blank (getD (now text) at 0) ≡ false) × (now table ≡ padded rows) ⌝ }
     ensures { λ r. ⌜ (clauseRead r (now (text .entry)) ≡ readAt (now (text .entry)) at (gap s)) × ClauseEnd r at ⌝ }
 {
-    match subject_at(text, at, table) {
+    match subject_at(text, at, table, index) {
         Subject::Missing(place) => Clause::Stuck(place),
         Subject::Of(c, next) => operators_at(text, next, c, s),
     }

@@ -1,11 +1,10 @@
 // The reader of capabilities in names.
 //
 // A text is read clause by clause: whom a clause is about, then its operators. The form itself is defined in the crate `names`; the table that
-// names are found by is made once and lent. Every function is proved, for every argument: no public one has a `requires`. The crate assumes nothing.
+// names are found by and its index are made once and lent. Every function is proved, for every argument: no public one has a `requires`. The crate assumes nothing.
 ghost use mathlib.Core.Path.{_≡_};
 ghost use Rattle.names.specs.Reading.{readText};
-ghost use Rattle.names.specs.Inside.{flat};
-ghost use Rattle.names_reader.specs.Inside.{rows};
+ghost use Rattle.names_reader.specs.Inside.{padded, rows};
 
 mod bytes;
 mod clauses;
@@ -39,12 +38,13 @@ pub fn read_names(text: &[u8]) -> Reading
     ensures { λ r. ⌜ r ≡ readText (now (text .entry)) ⌝ }
 {
     let table = table::by_length();
-    read_with(text, &table)
+    let index = table::by_hash();
+    read_with(text, &table, &index)
 }
 
-// The same with the table of names.
-fn read_with(text: &[u8], table: &[u8]) -> Reading
-    requires { ⌜ now table ≡ flat rows ⌝ }
+// The same with the table of names and its index.
+fn read_with(text: &[u8], table: &[u8], index: &[u8]) -> Reading
+    requires { ⌜ now table ≡ padded rows ⌝ }
     ensures { λ r. ⌜ r ≡ readText (now (text .entry)) ⌝ }
 {
     let mut i: usize = 0;
@@ -57,7 +57,7 @@ fn read_with(text: &[u8], table: &[u8]) -> Reading
         if bytes::is_blank(text[i]) {
             i += 1;
         } else {
-            match clauses::clause_at(text, i, table, sets) {
+            match clauses::clause_at(text, i, table, index, sets) {
                 Clause::Stuck(place) => {
                     return Reading::Malformed(place);
                 }

@@ -4,8 +4,7 @@ ghost use mathlib.Core.Bool.{false};
 ghost use Prim.Native.Nat.{_≤_, _<_};
 ghost use lib.ListN.{length, getD};
 ghost use Rattle.names.specs.Grammar.{blank};
-ghost use Rattle.names.specs.Inside.{flat};
-ghost use Rattle.names_reader.specs.Inside.{AllTold, NamesTold, rows, SubjectEnd, SubjectTold};
+ghost use Rattle.names_reader.specs.Inside.{AllTold, NamesTold, padded, rows, SubjectEnd, SubjectTold};
 use crate::Name;
 use crate::Subject;
 use crate::bytes::COMMA;
@@ -21,8 +20,8 @@ use capabilities::sets::single;
 const ALL_LENGTH: usize = 3;
 
 // Whom the clause at the position at is about.
-pub(crate) fn subject_at(text: &[u8], at: usize, table: &[u8]) -> Subject
-    requires { ⌜ (at < length (now text)) × (blank (getD (now text) at 0) ≡ false) × (now table ≡ flat rows) ⌝ }
+pub(crate) fn subject_at(text: &[u8], at: usize, table: &[u8], index: &[u8]) -> Subject
+    requires { ⌜ (at < length (now text)) × (blank (getD (now text) at 0) ≡ false) × (now table ≡ padded rows) ⌝ }
     ensures { λ r. ⌜ SubjectTold r (now (text .entry)) at × SubjectEnd r at (now (text .entry)) ⌝ }
 {
     let b = text[at];
@@ -32,15 +31,15 @@ pub(crate) fn subject_at(text: &[u8], at: usize, table: &[u8]) -> Subject
     if lower(b) == b'a' {
         return all_at(text, at);
     }
-    match name_at(text, at, table) {
+    match name_at(text, at, table, index) {
         Name::Missing(place) => Subject::Missing(place),
-        Name::Is(number, next) => names_at(text, next, table, single(number)),
+        Name::Is(number, next) => names_at(text, next, table, index, single(number)),
     }
 }
 
 // What follows names that mean c: a comma and more names, up to the first operator.
-fn names_at(text: &[u8], at: usize, table: &[u8], c: u64) -> Subject
-    requires { ⌜ now table ≡ flat rows ⌝ }
+fn names_at(text: &[u8], at: usize, table: &[u8], index: &[u8], c: u64) -> Subject
+    requires { ⌜ now table ≡ padded rows ⌝ }
     ensures { λ r. ⌜ NamesTold r (now (text .entry)) at c × SubjectEnd r at (now (text .entry)) ⌝ }
 {
     let mut i = at;
@@ -53,7 +52,7 @@ fn names_at(text: &[u8], at: usize, table: &[u8], c: u64) -> Subject
         if b != COMMA {
             return Subject::Missing(i);
         }
-        match name_at(text, i + 1, table) {
+        match name_at(text, i + 1, table, index) {
             Name::Missing(place) => {
                 return Subject::Missing(place);
             }

@@ -124,6 +124,18 @@ module _ (s : Sets) where
           omega arith
       by-test false = refl
 
+  -- the text goes on behind the clause of a row, of which length, number and the clause's length are known
+  pub length-next : (size k p n m c total : ℕ) (table : List ℕ) (xs : List Row) (r : RowAt xs k p table) → n ≡ length (r .text) → m ≡ r .number
+      → c ≡ clauseLength size n s m → size + length (rowsText size s (drop k xs)) ≡ total → size + c + length (rowsText (size + c) s (drop (k + 1) xs)) ≡ total
+  length-next size k p n m c total table xs r q h e i =
+      let cl = clauseAt (eqb size 0) s (row (r .text) (r .number)) in
+      let rest = drop (k + 1) xs in
+      let f : c ≡ length cl = e ∙ ap (λ (j : ℕ). clauseLength size n s j) h ∙ clause-length size (r .text) (r .number) n q in
+      let t = ap length (rows-next size k p table xs r) in
+      let u = length-append cl (rowsText (size + length cl) s rest) in
+      let g : size + length cl + length (rowsText (size + length cl) s rest) ≡ total = omega (arith, t, u, i) in
+      ap (λ (j : ℕ). size + j + length (rowsText (size + j) s rest)) f ∙ g
+
   -- the clause of a capability that has a flag, in parts
   pub clause-lengths : (first : Bool) (w : List ℕ) (n : ℕ) → hasFlag s n ≡ true
       → length (clauseAt first s (row w n)) ≡ length (separator first) + (length (nameText w) + length (flagsText s n))

@@ -1,17 +1,16 @@
 -- `names_writer::text_length` meets its contract. Assumes nothing.
 use mathlib.Core.Path.{_≡_, ap, _∙_}
-use Prim.Native.Nat.{_-_, _+_, _≤_, ℕ}
+use Prim.Native.Nat.{_-_, _+_, _≤_}
 use native.Mathlib.Omega.{arith}
-use lib.Dec.{eqb}
-use lib.ListN.{length, drop, length-append, drop-of-length-le}
+use lib.ListN.{length, drop, drop-of-length-le}
 use borrow.Author.Needs.{needs}
 use Rattle.names.specs.Names.{capabilityNames}
 use Rattle.names.specs.Writing.{setsText}
-use Rattle.names.specs.Inside.{row, flat, rowsFrom}
+use Rattle.names.specs.Inside.{flat, rowsFrom}
 use Rattle.names.proofs.Longest.{longest}
 use Rattle.names.proofs.Rows.{row-at}
-use Rattle.names_writer.specs.Inside.{clauseAt, clauseLength, rowsText}
-use Rattle.names_writer.proofs.Texts.{table-rows, rows-text, rows-next, rows-end, clause-length}
+use Rattle.names_writer.specs.Inside.{rowsText}
+use Rattle.names_writer.proofs.Texts.{table-rows, rows-text, rows-end, length-next}
 use Rattle.names_writer.proofs.text_length.Statement.{statement}
 use Rattle.names_writer.proofs.text_length.Tie as tie
 
@@ -60,15 +59,8 @@ add-size c =
     let l = c .before .before .before .before .before .before in
     let a = l .before .before .args in
     let r = row-at (a .table .now) (rowsFrom 0 capabilityNames) (l .loop .row) (l .loop .p) (omega (arith, table-rows)) (l .loop .inv .1) in
-    let w = row (r .text) (r .number) in
-    let cl = clauseAt (eqb (l .loop .size) 0) (a .held) w in
-    let rest = drop (l .loop .row + 1) (rowsFrom 0 capabilityNames) in
     let q = c .before .before .before .wide .ensures .0 ∙ r .first in
-    let m = c .before .wide2 .ensures .0 ∙ r .second in
-    let e : c .clause-length .result ≡ length cl = c .clause-length .ensures ∙ ap (λ (i : ℕ). clauseLength (l .loop .size) (c .before .before .before .wide .result) (a .held) i) m ∙ clause-length (a .held) (l .loop .size) (r .text) (r .number) (c .before .before .before .wide .result) q in
-    let t = ap length (rows-next (a .held) (l .loop .size) (l .loop .row) (l .loop .p) (a .table .now) (rowsFrom 0 capabilityNames) r) in
-    let u = length-append cl (rowsText (l .loop .size + length cl) (a .held) rest) in
-    omega (arith, e, t, u, l .loop .inv .0, longest .texts (a .held))
+    omega (arith, length-next (a .held) (l .loop .size) (l .loop .row) (l .loop .p) (c .before .before .before .wide .result) (c .before .wide2 .result) (c .clause-length .result) _ (a .table .now) (rowsFrom 0 capabilityNames) r q (c .before .wide2 .ensures .0 ∙ r .second) (c .clause-length .ensures) (l .loop .inv .0), longest .texts (a .held))
 
 add-p : tie.Need-add-p Inv-loop μ-loop
 add-p c =
@@ -95,16 +87,8 @@ loop-again c =
     let l = c .before .before .before .before .before .before in
     let a = l .before .before .args in
     let r = row-at (a .table .now) (rowsFrom 0 capabilityNames) (l .loop .row) (l .loop .p) (omega (arith, table-rows)) (l .loop .inv .1) in
-    let w = row (r .text) (r .number) in
-    let cl = clauseAt (eqb (l .loop .size) 0) (a .held) w in
-    let rest = drop (l .loop .row + 1) (rowsFrom 0 capabilityNames) in
     let q = c .before .before .before .wide .ensures .0 ∙ r .first in
-    let m = c .before .wide2 .ensures .0 ∙ r .second in
-    let e : c .clause-length .result ≡ length cl = c .clause-length .ensures ∙ ap (λ (i : ℕ). clauseLength (l .loop .size) (c .before .before .before .wide .result) (a .held) i) m ∙ clause-length (a .held) (l .loop .size) (r .text) (r .number) (c .before .before .before .wide .result) q in
-    let t = ap length (rows-next (a .held) (l .loop .size) (l .loop .row) (l .loop .p) (a .table .now) (rowsFrom 0 capabilityNames) r) in
-    let u = length-append cl (rowsText (l .loop .size + length cl) (a .held) rest) in
-    let f : l .loop .size + length cl + length (rowsText (l .loop .size + length cl) (a .held) rest) ≡ length (setsText (a .held)) = omega (arith, t, u, l .loop .inv .0) in
-    (ap (λ (i : ℕ). l .loop .size + i + length (rowsText (l .loop .size + i) (a .held) rest)) e ∙ f, r .next (c .before .before .before .wide .result) q, search needs)
+    (length-next (a .held) (l .loop .size) (l .loop .row) (l .loop .p) (c .before .before .before .wide .result) (c .before .wide2 .result) (c .clause-length .result) _ (a .table .now) (rowsFrom 0 capabilityNames) r q (c .before .wide2 .ensures .0 ∙ r .second) (c .clause-length .ensures) (l .loop .inv .0), r .next (c .before .before .before .wide .result) q, search needs)
 
 returns : tie.Need-returns Inv-loop μ-loop
 returns c =

@@ -31,13 +31,13 @@ operators-at-requires c κs = tt
 
 returns : tie.Need-returns
 returns c =
-    let a = c .before .before .before .before .before .before .args in
+    let a = c .before .before .before .before .before .before .before .args in
     let f : SubjectTold (Missing (c .before .place .given .0 .0)) (a .text .now) (a .at) = rw (c .before .place .given .1) at (c .before .before .before .subject-at .ensures .0) in
     (f (a .s), tt)
 
 returns-2 : tie.Need-returns-2
 returns-2 c =
-    let a = c .before .before .before .before .before .before .before .args in
+    let a = c .before .before .before .before .before .before .before .before .args in
     let t = a .text .now in
     let who = c .before .before .c .given .0 .0 in
     let next = c .before .before .c .given .0 .1 .0 in

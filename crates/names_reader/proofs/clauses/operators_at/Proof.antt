@@ -11,7 +11,7 @@ use borrow.Author.Needs.{needs}
 use Rattle.names.specs.declared.Sets.{Sets}
 use Rattle.names.specs.Grammar.{flag, blank, dash, equals}
 use Rattle.names.specs.Reading.{operated, gap, go}
-use Rattle.names_reader.specs.Inside.{readAt, operates, begun}
+use Rattle.names_reader.specs.Inside.{readAt, operates}
 use Rattle.names_reader.proofs.Steps.{not-true, not-false, read-go, read-stuck, read-end, operated-flag, operated-stuck, operated-blank, operated-operator, operator-begun, operator-stuck}
 use Rattle.names_reader.proofs.clauses.operators_at.Statement.{statement}
 use Rattle.names_reader.proofs.clauses.operators_at.Tie as tie

@@ -21,7 +21,7 @@ shared-slice-read-b c = search needs
 
 returns : tie.Need-returns
 returns c =
-    let p = c .before .before .before .before in
+    let p = c .before .before .before .before .before in
     let t = p .args .text .now in
     let i = p .args .at in
     (λ s. sym (read-same t i (gap s) (operated true true full s) (p .pre .0) (gap-put s (getD t i 0) (c .if1 .taken))), (omega arith, p .pre .0))
@@ -30,11 +30,11 @@ lower-requires : tie.Need-lower-requires
 lower-requires c κs = tt
 
 all-at-requires : tie.Need-all-at-requires
-all-at-requires c κs = omega (arith, c .before .before .before .before .before .before .pre .0)
+all-at-requires c κs = omega (arith, c .before .before .before .before .before .before .before .pre .0)
 
 returns-2 : tie.Need-returns-2
 returns-2 c =
-    let p = c .before .before .before .before .before .before .before in
+    let p = c .before .before .before .before .before .before .before .before in
     let t = p .args .text .now in
     let i = p .args .at in (
       λ s. c .all-at .ensures .0 s
@@ -43,7 +43,7 @@ returns-2 c =
     )
 
 name-at-requires : tie.Need-name-at-requires
-name-at-requires c κs = (omega (arith, c .before .before .before .before .before .before .pre .0), c .before .before .before .before .before .before .pre .2)
+name-at-requires c κs = (omega (arith, c .before .before .before .before .before .before .before .pre .0), c .before .before .before .before .before .before .before .pre .2)
 
 enum-known-place : tie.Need-enum-known-place
 enum-known-place c = search needs
@@ -55,11 +55,11 @@ single-requires : tie.Need-single-requires
 single-requires c κs = tt
 
 names-at-requires : tie.Need-names-at-requires
-names-at-requires c κs = c .before .before .before .before .before .before .before .before .before .before .before .pre .2
+names-at-requires c κs = c .before .before .before .before .before .before .before .before .before .before .before .before .pre .2
 
 returns-3 : tie.Need-returns-3
 returns-3 c =
-    let p = c .before .before .before .before .before .before .before .before .before .before in
+    let p = c .before .before .before .before .before .before .before .before .before .before .before in
     let t = p .args .text .now in
     let i = p .args .at in
     let q = c .before .place .given .1 in
@@ -71,7 +71,7 @@ returns-3 c =
 
 returns-4 : tie.Need-returns-4
 returns-4 c =
-    let p = c .before .before .before .before .before .before .before .before .before .before .before .before in
+    let p = c .before .before .before .before .before .before .before .before .before .before .before .before .before in
     let t = p .args .text .now in
     let i = p .args .at in
     let row = c .before .before .before .number .given .0 .0 in

@@ -22,25 +22,25 @@ add-find-at c = search needs
 
 find-at-requires : tie.Need-find-at-requires
 find-at-requires c κs =
-    let s = c .before .before .before .before .before in
+    let s = c .before .before .before .before .before .before in
     let a = s .args in
     (omega (arith, s .pre .0, c .before .common-at .ensures, c .if1 .taken, common-le (bytes "cap_") (drop (a .at) (a .text .now)) .1, length-drop (a .at) (a .text .now)), s .pre .1)
 
 returns : tie.Need-returns
 returns c =
     let n = c .before .before in
-    let a = n .before .before .before .before .args in
-    name-told (a .text .now) (a .at) (c .find-at .result) (sym (n .common-at .ensures) ∙ c .before .if1 .taken) (sym (c .find-at .ensures))
+    let a = n .before .before .before .before .before .args in
+    name-told (a .text .now) (a .at) (c .find-at .result) (sym (n .common-at .ensures) ∙ c .before .if1 .taken) (c .find-at .ensures)
 
 add-place : tie.Need-add-place
 add-place c =
-    let s = c .before .before .before .before .before in
+    let s = c .before .before .before .before .before .before in
     let a = s .args in
     omega (arith, s .pre .0, c .before .common-at .ensures, common-le (bytes "cap_") (drop (a .at) (a .text .now)) .1, length-drop (a .at) (a .text .now))
 
 returns-2 : tie.Need-returns-2
 returns-2 c =
-    let s = c .before .before .before .before .before in
+    let s = c .before .before .before .before .before .before in
     let a = s .args in
     let e : c .before .common-at .result ≡ common (bytes "cap_") (drop (a .at) (a .text .now)) = c .before .common-at .ensures in
     let u = common-le (bytes "cap_") (drop (a .at) (a .text .now)) .0 in
