@@ -1,4 +1,4 @@
-//! Times the proved library and the second program on equal plans, side by side.
+//! Times the proved library and the second program on equal plans, side by side; and these two and libcap on equal texts in names.
 //!
 //! ```text
 //! bench [ROUNDS]
@@ -6,17 +6,23 @@
 //!
 //! For each number of steps there is a batch of different plans, well-formed ones and ones with a byte changed. A round runs both programs over the
 //! batch, each plan into a buffer of its own that was cleared before, and then compares every answer and every byte of every buffer. Clearing and
-//! comparing are not timed. Rounds of the two programs alternate, so that both see the same phases of the machine's clock.
+//! comparing are not timed. Rounds of the two programs alternate, so that both see the same phases of the machine's clock. Texts in names have a fifth
+//! of the rounds; libcap is left out where the system has none, and on texts that it does not read as the others do.
 
 mod figures;
+mod names;
 
 use figures::Figures;
+use libcap::Libcap;
 use measured::batch::{Batch, Kind, STEPS};
 use std::process::ExitCode;
 use std::time::Instant;
 
 /// How many rounds are run where none is asked for.
 const ROUNDS: usize = 101;
+
+/// Of so many rounds one is run on texts in names, which take longer.
+const PLANS_A_TEXT: usize = 5;
 
 /// An answer as numbers, so that the two programs' can be compared: code, line of a fault, length of the report.
 type Answer = (u32, u32, usize);
@@ -111,18 +117,37 @@ fn main() -> ExitCode {
         }
     };
     println!("{rounds} rounds; times are medians, with the first and third quartile of the rounds in brackets\n");
+    match plans(rounds).and_then(|()| names(rounds.div_ceil(PLANS_A_TEXT))) {
+        Ok(()) => ExitCode::SUCCESS,
+        Err(difference) => {
+            println!("{difference}");
+            ExitCode::FAILURE
+        }
+    }
+}
+
+// Prints the table of plans, or gives the difference that was found.
+fn plans(rounds: usize) -> Result<(), String> {
     println!("{}", Figures::HEADING);
     for kind in [Kind::WellFormed, Kind::Broken] {
         for steps in STEPS {
             let batch = Batch::new(kind, steps);
-            match measure(&batch, rounds) {
-                Ok(figures) => println!("{figures}"),
-                Err(plan) => {
-                    println!("the two programs differ on this plan:\n{}", batch.plans[plan].escape_ascii());
-                    return ExitCode::FAILURE;
-                }
-            }
+            let figures = measure(&batch, rounds).map_err(|plan| {
+                format!("the two programs differ on this plan:\n{}", batch.plans[plan].escape_ascii())
+            })?;
+            println!("{figures}");
         }
     }
-    ExitCode::SUCCESS
+    Ok(())
+}
+
+// The same for texts in names.
+fn names(rounds: usize) -> Result<(), String> {
+    let libcap = Libcap::load();
+    if let Err(error) = &libcap {
+        println!("\nwithout libcap: {error}");
+    }
+    println!("\n{rounds} rounds\n\n{}", names::HEADING);
+    names::rows(libcap.as_ref().ok(), rounds)?.iter().for_each(|row| println!("{row}"));
+    Ok(())
 }
