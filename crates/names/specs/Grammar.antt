@@ -142,6 +142,6 @@ noSets = record { permitted = 0; inheritable = 0; effective = 0 }
 abbrev pub WellFormed : List ℕ → Sets → Type 0
 WellFormed t v = Text noSets t v
 
--- some bytes complete the text t to a well-formed one
+-- some bytes complete the text t to a well-formed one, in which no number can stand that is no byte
 abbrev pub Beginning : List ℕ → Type 0
 Beginning t = (more : List ℕ) × (v : Sets) × WellFormed (t ++ more) v

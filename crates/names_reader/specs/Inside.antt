@@ -121,6 +121,7 @@ unfoldable pub rows : List Row
 unfolding byLength putIn rowsFrom capabilityNames
 rows = byLength (rowsFrom 0 capabilityNames)
 
+-- the row of number k
 abbrev pub rowAt : ℕ → Row
 rowAt k = getD rows k (row [] 0)
 

@@ -1,7 +1,7 @@
 // The reader of capabilities in names.
 //
-// A text is read clause by clause: whom a clause is about, then its operators. The form itself is defined in the crate `names`; the table that
-// names are found by and its index are made once and lent. Every function is proved, for every argument: no public one has a `requires`. The crate assumes nothing.
+// A text is read clause by clause: whom a clause is about, then its operators. The form itself is defined in the crate `names`; the table that names are
+// found by and its index are made once and lent. Every function is proved, for every argument: no public one has a `requires`. The crate assumes nothing.
 ghost use mathlib.Core.Path.{_≡_};
 ghost use Rattle.names.specs.Reading.{readText};
 ghost use Rattle.names_reader.specs.Inside.{padded, rows};

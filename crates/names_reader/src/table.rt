@@ -109,7 +109,8 @@ pub(crate) fn by_hash() -> [u8; 64] {
     BY_HASH
 }
 
-// A number below 64 of the bytes 0, 3, 4 and 6 of a name behind `cap_`, the last one 0 where it has no more than six: another one for each name of six or more.
+// A number below 64 of the bytes 0, 3, 4 and 6 of a name behind `cap_`, the last one 0 where the name has six. The factors were found by trying: names of
+// six bytes or more come to different numbers.
 pub(crate) fn hash(b0: u8, b3: u8, b4: u8, b6: u8) -> usize {
     let sum = 7 * wide(b0) + 36 * wide(b3) + 9 * wide(b4) + 2 * wide(b6);
     (sum % 64) as usize

@@ -12,7 +12,7 @@ use crate::table::name_start;
 use crate::table::number_of;
 use codes::wide;
 
-// What every name begins with, and how many bytes that has.
+// How many bytes `cap_` has, which every name begins with.
 const PREFIX_LENGTH: usize = 4;
 
 // Where the last byte stands that the index asks for.
