@@ -58,7 +58,8 @@ fn texts() -> Vec<Text> {
         texts.push(Text::repeated(&written, size).named(&format!("every name with `=eip`, {about}")));
     }
     texts.push(generated());
-    let mut broken = Text::repeated(&written, MEGABYTE).named("every name with `=eip`, 1 MiB, malformed at its last byte");
+    let mut broken =
+        Text::repeated(&written, MEGABYTE).named("every name with `=eip`, 1 MiB, malformed at its last byte");
     *broken.bytes.last_mut().expect("it is not empty") = b'!';
     texts.push(broken);
     texts

@@ -24,6 +24,7 @@
 /// assert!(explanation.departures().eq([Departure::NothingRefused]));
 /// assert_eq!(known.without_named("tab-is-space"), Some(explanation));
 /// assert_eq!(known.without_named("tabs"), None);
+/// assert_eq!(Switches::all_but(&["tab-is-space".into(), "nothing-refused".into()]), Some(Switches::NONE));
 /// ```
 #[macro_export]
 macro_rules! departures {
@@ -72,6 +73,11 @@ macro_rules! departures {
                 ALL.iter().find(|departure| departure.name() == name).map(|&departure| self.without(departure))
             }
 
+            /// All but the named ones, or nothing where one of the names is none.
+            pub fn all_but(names: &[String]) -> Option<Switches> {
+                names.iter().try_fold(Switches::EVERY, |kept, name| kept.without_named(name))
+            }
+
             /// The fewest of these switches, in the sense that none can be spared, that explain something. All of these have to.
             pub fn fewest(self, explain: impl Fn(Switches) -> bool) -> Switches {
                 ALL.into_iter().fold(self, |kept, departure| {
@@ -90,6 +96,46 @@ macro_rules! departures {
             }
         }
     };
+}
+
+/// What a comparison is told on its command line: `[--count N] [--seed N] [--verbose] [--without DEPARTURE]`.
+#[derive(Debug, PartialEq, Eq)]
+pub struct Options {
+    /// How many random inputs.
+    pub count: u64,
+    /// The seed that they are made from.
+    pub seed: u64,
+    /// Whether every difference is named.
+    pub verbose: bool,
+    /// The departures that are taken away, so that the run has to fail.
+    pub without: Vec<String>,
+}
+
+impl Options {
+    /// Reads the words, of which nothing but these options is left; `count` where none is given. Nothing where a word is not understood.
+    ///
+    /// ```
+    /// use departures::Options;
+    ///
+    /// let words = |words: &str| words.split_whitespace().map(str::to_owned).collect::<Vec<_>>().into_iter();
+    /// let options = Options::read(words("--seed 7 --without tabs --verbose"), 1000).unwrap();
+    /// assert_eq!(options, Options { count: 1000, seed: 7, verbose: true, without: vec!["tabs".into()] });
+    /// assert_eq!(Options::read(words("--count"), 1000), None);
+    /// assert_eq!(Options::read(words("--quick"), 1000), None);
+    /// ```
+    pub fn read(mut words: impl Iterator<Item = String>, count: u64) -> Option<Options> {
+        let mut options = Options { count, seed: 1, verbose: false, without: Vec::new() };
+        while let Some(word) = words.next() {
+            match word.as_str() {
+                "--count" => options.count = words.next()?.parse().ok()?,
+                "--seed" => options.seed = words.next()?.parse().ok()?,
+                "--verbose" => options.verbose = true,
+                "--without" => options.without.push(words.next()?),
+                _ => return None,
+            }
+        }
+        Some(options)
+    }
 }
 
 #[cfg(test)]
@@ -113,7 +159,7 @@ mod tests {
     fn what_can_be_spared_is_left_out() {
         let known = Switches::EVERY;
         let of_two = |switches: Switches| switches.on(Departure::One) && switches.on(Departure::Third);
-        assert_eq!(Some(known.fewest(of_two)), known.without_named("other"));
+        assert_eq!(Some(known.fewest(of_two)), Switches::all_but(&["other".into()]));
         let either = |switches: Switches| switches.on(Departure::One) || switches.on(Departure::Other);
         assert!(known.fewest(either).departures().eq([Departure::Other]));
         assert_eq!(known.fewest(|_| true), Switches::NONE);

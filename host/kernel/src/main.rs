@@ -26,6 +26,7 @@ mod tally;
 mod tests;
 mod witnesses;
 
+use ::departures::Options;
 use comparison::{compare, Fault, Verdict};
 use departures::{Departure, Switches};
 use generator::Generator;
@@ -43,32 +44,25 @@ use std::{env, fs, io};
 
 const USAGE: &str = "kernel HARNESS EXAMPLES [--count N] [--seed N] [--verbose] [--without DEPARTURE]";
 
+/// How many random plans are run where no number is given.
+const COUNT: u64 = 5000;
+
 /// Faults are printed up to this many, and then only counted.
 const PRINTED: u64 = 5;
 
-struct Options {
+struct Told {
     harness: String,
     examples: String,
-    count: u64,
-    seed: u64,
-    verbose: bool,
+    options: Options,
     known: Switches,
 }
 
-fn options() -> Option<Options> {
+fn told() -> Option<Told> {
     let mut arguments = env::args().skip(1);
     let (harness, examples) = (arguments.next()?, arguments.next()?);
-    let mut options = Options { harness, examples, count: 5000, seed: 1, verbose: false, known: Switches::EVERY };
-    while let Some(argument) = arguments.next() {
-        match argument.as_str() {
-            "--count" => options.count = arguments.next()?.parse().ok()?,
-            "--seed" => options.seed = arguments.next()?.parse().ok()?,
-            "--verbose" => options.verbose = true,
-            "--without" => options.known = options.known.without_named(&arguments.next()?)?,
-            _ => return None,
-        }
-    }
-    Some(options)
+    let options = Options::read(arguments, COUNT)?;
+    let known = Switches::all_but(&options.without)?;
+    Some(Told { harness, examples, options, known })
 }
 
 // A line of /proc/sys/kernel.
@@ -77,7 +71,7 @@ fn about(name: &str) -> String {
 }
 
 fn main() -> ExitCode {
-    let Some(options) = options() else {
+    let Some(told) = told() else {
         eprintln!("{USAGE}");
         return ExitCode::from(2);
     };
@@ -90,7 +84,7 @@ fn main() -> ExitCode {
         return ExitCode::from(2);
     }
     let tag = format!("urrezkalu-kernel-{}", process::id());
-    let tally = match run(&options, &tag) {
+    let tally = match run(&told, &tag) {
         Ok(tally) => tally,
         Err(error) => {
             eprintln!("kernel: {error}");
@@ -106,9 +100,9 @@ fn main() -> ExitCode {
 }
 
 /// Runs the fixed plans and then the random ones, and counts them.
-fn run(options: &Options, tag: &str) -> io::Result<Tally> {
+fn run(told: &Told, tag: &str) -> io::Result<Tally> {
     let mut tally = Tally::default();
-    let (examples, none) = fixed::examples(Path::new(&options.examples))?;
+    let (examples, none) = fixed::examples(Path::new(&told.examples))?;
     (0..none).for_each(|_| tally.not_run("an example that is no plan or has no valid start"));
     let lists = [
         fixed::cases(),
@@ -122,10 +116,10 @@ fn run(options: &Options, tag: &str) -> io::Result<Tally> {
     ];
     let mut fixed: Vec<Plan> = lists.into_iter().flatten().collect();
 
-    let mut harness = Harness::new(&options.harness, tag)?;
+    let mut harness = Harness::new(&told.harness, tag)?;
     let (permitted, bounding) = (harness.permitted, harness.bounding);
     println!("Linux {}, permitted {permitted:016x}, bounding {bounding:016x}", about("osrelease"));
-    println!("{} fixed plans, {} random plans of seed {}\n", fixed.len(), options.count, options.seed);
+    println!("{} fixed plans, {} random plans of seed {}\n", fixed.len(), told.options.count, told.options.seed);
     let image = Image::new(&fixed);
     harness.make_image(&image)?;
 
@@ -134,28 +128,28 @@ fn run(options: &Options, tag: &str) -> io::Result<Tally> {
         plan.steps.iter_mut().for_each(|step| image.furnish(step));
     }
     for plan in fixed {
-        run_plan(options, &mut harness, plan, &mut tally)?;
+        run_plan(told, &mut harness, plan, &mut tally)?;
     }
-    let mut generator = Generator { random: Random::new(options.seed), image: &image, permitted, bounding };
-    for number in 0..options.count {
-        let plan = generator.plan(format!("seed {}, plan {number}", options.seed));
-        run_plan(options, &mut harness, plan, &mut tally)?;
+    let mut generator = Generator { random: Random::new(told.options.seed), image: &image, permitted, bounding };
+    for number in 0..told.options.count {
+        let plan = generator.plan(format!("seed {}, plan {number}", told.options.seed));
+        run_plan(told, &mut harness, plan, &mut tally)?;
     }
     harness.end()?;
     Ok(tally)
 }
 
 /// Runs one plan, without the steps that cannot be run, and counts it. A fault is printed.
-fn run_plan(options: &Options, harness: &mut Harness, mut plan: Plan, tally: &mut Tally) -> io::Result<()> {
+fn run_plan(told: &Told, harness: &mut Harness, mut plan: Plan, tally: &mut Tally) -> io::Result<()> {
     plan.steps.retain(|step| {
         let reason = step.not_run();
         reason.into_iter().for_each(|reason| tally.not_run(reason));
         reason.is_none()
     });
     let seen = harness.run(&plan)?;
-    match compare(options.known, &plan, &seen) {
+    match compare(told.known, &plan, &seen) {
         Ok(verdicts) => {
-            if options.verbose {
+            if told.options.verbose {
                 print_explained(&plan, &verdicts);
             }
             let codes: Vec<u32> = seen.outcomes.iter().map(|outcome| outcome.code).collect();

@@ -11,6 +11,7 @@ mod model;
 mod tally;
 
 use comparison::{Asked, Comparison, Fault, Verdict};
+use departures::Options;
 use libcap::{Libcap, OBJECT};
 use model::{Departure, Switches};
 use plans::CAPABILITY_NAMES;
@@ -20,33 +21,17 @@ use tally::Tally;
 
 const USAGE: &str = "libcap [--count N] [--seed N] [--verbose] [--without DEPARTURE]";
 
+/// How many seeds are run where no number is given.
+const COUNT: u64 = 100_000;
+
 /// Faults are printed up to this many, and then only counted.
 const PRINTED: u64 = 5;
 
-struct Options {
-    count: u64,
-    seed: u64,
-    verbose: bool,
-    known: Switches,
-}
-
-fn options() -> Option<Options> {
-    let mut arguments = env::args().skip(1);
-    let mut options = Options { count: 100_000, seed: 1, verbose: false, known: Switches::EVERY };
-    while let Some(argument) = arguments.next() {
-        match argument.as_str() {
-            "--count" => options.count = arguments.next()?.parse().ok()?,
-            "--seed" => options.seed = arguments.next()?.parse().ok()?,
-            "--verbose" => options.verbose = true,
-            "--without" => options.known = options.known.without_named(&arguments.next()?)?,
-            _ => return None,
-        }
-    }
-    Some(options)
-}
-
 fn main() -> ExitCode {
-    let Some(options) = options() else {
+    let told = Options::read(env::args().skip(1), COUNT);
+    let Some((options, known)) =
+        told.and_then(|options| Switches::all_but(&options.without).map(|known| (options, known)))
+    else {
         eprintln!("{USAGE}");
         return ExitCode::from(2);
     };
@@ -62,7 +47,7 @@ fn main() -> ExitCode {
         eprintln!("libcap: here it has {capabilities} capabilities, and not {}", CAPABILITY_NAMES.len());
         return ExitCode::from(2);
     }
-    let tally = run(&options, Comparison::new(libcap, options.known));
+    let tally = run(&options, Comparison::new(libcap, known));
     print!("{tally}");
     let never_seen: Vec<&str> = tally.never_seen().collect();
     never_seen.iter().for_each(|name| println!("FAILED: {name} was never seen"));
