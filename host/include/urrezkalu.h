@@ -29,7 +29,7 @@
  *         fprintf(stderr, "malformed at place %u\n", (unsigned)urrezkalu_place(number));
  *     }
  *
- * Link with libcapi.a. It needs no other library; the one symbol that it leaves open is memset, which every C library has.
+ * Link with libcapi.a. It needs no other library; the symbols that it leaves open are memcpy and memset, which every C library has.
  *
  * What holds of all seven functions:
  *

@@ -1,4 +1,4 @@
--- Texts in names and what they come to, as the wish and its notes say ("Say it in names"): sets, places, written forms, answers and buffers.
+-- Texts in names and what they come to, as the request says ("Say it in names"): sets, places, written forms, answers and buffers.
 -- proofs/Applied.antt proves the statement at the end by computing both sides; `vectors` runs further texts. Assumes nothing.
 use Prim.Native.Nat.{ℕ}
 use mathlib.Core.Path.{_≡_}
