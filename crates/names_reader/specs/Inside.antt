@@ -1,11 +1,11 @@
 -- How the answers of private functions stand for the reading from a position, and the table that names are found by; no public contract cites these.
 -- Assumes nothing.
 use mathlib.Core.Path.{_≡_}
-use Prim.Native.Nat.{ℕ, suc, _+_, _-_, max, _≤_, _<_}
+use Prim.Native.Nat.{ℕ, zero, suc, _+_, _-_, _*_, _%_, max, _≤_, _<_}
 use mathlib.Core.Logic.{_⊎_}
 use mathlib.Core.List.{List, [], _∷_, _++_}
-use mathlib.Core.Bool.{Bool, true, cond, _||_}
-use lib.Dec.{eqb, ltb}
+use mathlib.Core.Bool.{Bool, true, cond, _&&_, _||_}
+use lib.Dec.{eqb, leb, ltb}
 use lib.ListN.{length, drop, getD, replicate}
 use Rattle.capabilities.specs.Sets.{single, union}
 use Rattle.names.specs.declared.Sets.{Sets}
@@ -138,6 +138,28 @@ cell w = w ++ replicate (18 - length w) 0
 unfoldable pub padded : List Row → List ℕ
 padded [] = []
 padded (row w n ∷ xs) = length w ∷ n ∷ (cell w ++ padded xs)
+
+-- a number below 64 of four bytes
+abbrev pub hashed : ℕ → ℕ → ℕ → ℕ → ℕ
+hashed b0 b3 b4 b6 = (7 * b0 + 36 * b3 + 9 * b4 + 2 * b6) % 64
+
+-- that of a name behind `cap_`: its bytes 0, 3, 4 and 6, and 0 where it has none
+abbrev pub hashOf : List ℕ → ℕ
+hashOf w = hashed (getD w 0 0) (getD w 3 0) (getD w 4 0) (getD w 6 0)
+
+-- of these rows, the first of which has number k, the first that has six bytes or more and comes to h; ff where there is none
+unfoldable pub rowFor : ℕ → ℕ → List Row → ℕ
+rowFor h k [] = 0xff
+rowFor h k (x ∷ xs) = cond (leb 6 (size x) && eqb (hashOf (textOf x)) h) k (rowFor h (suc k) xs)
+
+-- the row for each of n numbers, from h on
+unfoldable pub rowsFor : ℕ → ℕ → List ℕ
+rowsFor zero h = []
+rowsFor (suc n) h = rowFor h 0 rows ∷ rowsFor n (suc h)
+
+-- the index of the rows
+unfoldable pub index : List ℕ
+index = rowsFor 64 0
 
 -- how many bytes of a word stand at the front of a text, in either case
 unfoldable pub common : List ℕ → List ℕ → ℕ

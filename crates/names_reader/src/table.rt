@@ -5,7 +5,7 @@
 ghost use mathlib.Core.Path.{_≡_};
 ghost use Prim.Native.Nat.{_+_, _*_, _≤_, _<_};
 ghost use lib.ListN.{length};
-ghost use Rattle.names_reader.specs.Inside.{numberOf, padded, rowAt, rows, textOf};
+ghost use Rattle.names_reader.specs.Inside.{hashed, index, numberOf, padded, rowAt, rows, textOf};
 use codes::wide;
 
 // How many rows it has.
@@ -92,8 +92,8 @@ pub(crate) fn number_of(table: &[u8], row: usize) -> u64
     wide(table[row * WIDTH + NUMBER])
 }
 
-// For each number that `hash` gives, the row of the name of six bytes or more that has it, or ff. What the index says is only tried, so that nothing but
-// the time depends on it.
+// For each number that `hash` gives, the row of the name of six bytes or more that has it, or ff. What the index says is only tried: nothing but the
+// time depends on it.
 const BY_HASH: [u8; 64] = *b"\
     \x0a\xff\x28\x23\x16\x22\xff\x24\
     \x20\x1e\x08\x06\xff\x0e\x0b\x05\
@@ -105,13 +105,17 @@ const BY_HASH: [u8; 64] = *b"\
     \xff\xff\xff\xff\x09\xff\x13\xff\
     ";
 
-pub(crate) fn by_hash() -> [u8; 64] {
+pub(crate) fn by_hash() -> [u8; 64]
+    ensures { λ r. ⌜ r ≡ index ⌝ }
+{
     BY_HASH
 }
 
 // A number below 64 of the bytes 0, 3, 4 and 6 of a name behind `cap_`, the last one 0 where the name has six. The factors were found by trying: names of
 // six bytes or more come to different numbers.
-pub(crate) fn hash(b0: u8, b3: u8, b4: u8, b6: u8) -> usize {
+pub(crate) fn hash(b0: u8, b3: u8, b4: u8, b6: u8) -> usize
+    ensures { λ r. ⌜ r ≡ hashed b0 b3 b4 b6 ⌝ }
+{
     let sum = 7 * wide(b0) + 36 * wide(b3) + 9 * wide(b4) + 2 * wide(b6);
     (sum % 64) as usize
 }

@@ -135,6 +135,15 @@ mod tests {
         }
     }
 
+    #[test]
+    fn generated_texts_meet_every_departure() {
+        for departure in ALL {
+            let decides = |text: &[u8]| read(Switches::EVERY, text) != read(Switches::EVERY.without(departure), text);
+            let met = (0..2000).filter(|&seed| decides(&plans::libcap_text(seed))).count();
+            assert!(met > 10, "{} decides {met} texts", departure.name());
+        }
+    }
+
     // Each departure by a text that it alone decides, as docs/LIBCAP.md has them.
     #[test]
     fn each_switch_decides_a_text() {
