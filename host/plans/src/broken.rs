@@ -242,14 +242,17 @@ fn bytes_changed(random: &mut Random, fault: Fault, mut text: Vec<u8>) -> Vec<u8
         Fault::ByteDeleted => {
             text.remove(at);
         }
-        _ => {
-            for _ in 0..2 + random.below(4) {
-                let at = random.below(text.len());
-                text[at] = byte(random);
-            }
-        }
+        _ => several_changed(random, &mut text, byte),
     }
     text
+}
+
+/// Two to five bytes of a text that is not empty changed to others.
+pub(crate) fn several_changed(random: &mut Random, text: &mut [u8], byte: fn(&mut Random) -> u8) {
+    for _ in 0..2 + random.below(4) {
+        let at = random.below(text.len());
+        text[at] = byte(random);
+    }
 }
 
 // Any byte, or one that texts have.

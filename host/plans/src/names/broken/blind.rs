@@ -2,6 +2,7 @@
 
 use super::super::spelling::{blanks, Case, Spelling};
 use super::super::words::{ALL, CAPABILITY_NAMES, FLAGS};
+use crate::broken::several_changed;
 use crate::names::NameFault;
 use crate::random::Random;
 
@@ -29,12 +30,7 @@ fn bytes_changed(random: &mut Random, fault: NameFault, mut text: Vec<u8>) -> Ve
         NameFault::ByteDeleted => {
             text.remove(at);
         }
-        _ => {
-            for _ in 0..2 + random.below(4) {
-                let at = random.below(text.len());
-                text[at] = byte(random);
-            }
-        }
+        _ => several_changed(random, &mut text, byte),
     }
     text
 }
