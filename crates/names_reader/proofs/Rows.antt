@@ -15,7 +15,7 @@ use Rattle.names.proofs.Rows.{entry}
 use Rattle.names_reader.specs.declared.Name.{Name}
 use Rattle.names_reader.specs.declared.Name.the-variants.{Is, Missing}
 use Rattle.names.specs.Inside.{Row, row}
-use Rattle.names_reader.specs.Inside.{size, textOf, numberOf, putIn, byLength, rows, rowAt, OneOf, cell, padded, rowFor, rowsFor, index, allIndexed, common, find, Found}
+use Rattle.names_reader.specs.Inside.{size, textOf, numberOf, putIn, byLength, rows, rowAt, OneOf, cell, padded, rowFor, allIndexed, common, find, Found}
 
 -- ---- the table
 
@@ -25,7 +25,7 @@ rows-length = refl
 
 -- the index has every name of six bytes or more
 pub rows-indexed : allIndexed 0 rows ≡ true
-unfolding allIndexed index rowsFor rowFor rows
+unfolding allIndexed rowFor rows
 rows-indexed = refl
 
 -- no name is longer than a row has room for

@@ -161,10 +161,10 @@ rowsFor (suc n) h = rowFor h 0 rows ∷ rowsFor n (suc h)
 unfoldable pub index : List ℕ
 index = rowsFor 64 0
 
--- the index has each of these rows, the first of which has number k, that has six bytes or more; proofs/Rows.antt computes it for the table
+-- each of these rows, the first of which has number k, that has six bytes or more is the row for its number; proofs/Rows.antt computes it for the table
 unfoldable pub allIndexed : ℕ → List Row → Bool
 allIndexed k [] = true
-allIndexed k (x ∷ xs) = (ltb (size x) 6 || eqb (getD index (hashOf (textOf x)) 0xff) k) && allIndexed (suc k) xs
+allIndexed k (x ∷ xs) = (ltb (size x) 6 || eqb (rowFor (hashOf (textOf x)) 0 rows) k) && allIndexed (suc k) xs
 
 -- how many bytes of a word stand at the front of a text, in either case
 unfoldable pub common : List ℕ → List ℕ → ℕ
