@@ -3,6 +3,7 @@ use capabilities::sets;
 use credentials::Credentials;
 use credentials::securebits::SECBIT_NO_CAP_AMBIENT_RAISE;
 use rules::Answer;
+use rules::Cause;
 ghost use mathlib.Core.Path.{_≡_};
 ghost use Rattle.rules.specs.Ambient.{ambientClearAll, ambientIsSet, ambientLower, ambientRaise};
 
@@ -13,10 +14,10 @@ pub(crate) fn ambient_raise(start: Credentials, capability: u64) -> Answer
     if sets::lacks(start.sets.permitted, capability)
         | sets::lacks(start.sets.inheritable, capability)
     {
-        return Answer::NotPermitted;
+        return Answer::NotPermitted(Cause::NotInPermittedAndInheritable);
     }
     if start.securebits & SECBIT_NO_CAP_AMBIENT_RAISE != 0 {
-        return Answer::NotPermitted;
+        return Answer::NotPermitted(Cause::AmbientRaiseForbidden);
     }
     let ambient = start.sets.ambient | sets::single(capability);
     let mut next = start;

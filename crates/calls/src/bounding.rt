@@ -3,6 +3,7 @@ use capabilities::header::CAP_SETPCAP;
 use capabilities::sets;
 use credentials::Credentials;
 use rules::Answer;
+use rules::Cause;
 ghost use mathlib.Core.Path.{_≡_};
 ghost use Rattle.rules.specs.Bounding.{boundingDrop, boundingRead};
 
@@ -11,7 +12,7 @@ pub(crate) fn bounding_drop(start: Credentials, capability: u64) -> Answer
     ensures { λ r. ⌜ r ≡ boundingDrop start capability ⌝ }
 {
     if sets::lacks(start.sets.effective, CAP_SETPCAP) {
-        return Answer::NotPermitted;
+        return Answer::NotPermitted(Cause::CapabilityNotEffective);
     }
     let left = sets::difference(start.sets.bounding, sets::single(capability));
     let mut next = start;

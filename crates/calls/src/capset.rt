@@ -3,6 +3,7 @@ use capabilities::header::CAP_SETPCAP;
 use capabilities::sets;
 use credentials::Credentials;
 use rules::Answer;
+use rules::Cause;
 ghost use mathlib.Core.Path.{_≡_};
 ghost use Rattle.rules.specs.Capset.{capset};
 
@@ -15,16 +16,16 @@ pub(crate) fn capset(start: Credentials, permitted: u64, inheritable: u64, effec
     if sets::lacks(held.effective, CAP_SETPCAP)
         & sets::outside(inheritable, held.inheritable | held.permitted)
     {
-        return Answer::NotPermitted;
+        return Answer::NotPermitted(Cause::InheritableBeyondPermitted);
     }
     if sets::outside(inheritable, held.inheritable | held.bounding) {
-        return Answer::NotPermitted;
+        return Answer::NotPermitted(Cause::InheritableBeyondBounding);
     }
     if sets::outside(permitted, held.permitted) {
-        return Answer::NotPermitted;
+        return Answer::NotPermitted(Cause::PermittedGrows);
     }
     if sets::outside(effective, permitted) {
-        return Answer::NotPermitted;
+        return Answer::NotPermitted(Cause::EffectiveBeyondPermitted);
     }
     let ambient = held.ambient & permitted & inheritable;
     let mut next = start;

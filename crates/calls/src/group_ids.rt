@@ -5,6 +5,7 @@ use capabilities::header::CAP_SETGID;
 use capabilities::sets;
 use credentials::Credentials;
 use rules::Answer;
+use rules::Cause;
 use rules::NewIds;
 ghost use mathlib.Core.Path.{_≡_};
 ghost use Rattle.rules.specs.Ids.{filesystemGroupIdChanged, groupIdsChanged, setfsgid, setgid, setregid, setresgid};
@@ -49,7 +50,7 @@ fn group_ids_changed(start: Credentials, new: NewIds) -> Answer
     ensures { λ r. ⌜ r ≡ groupIdsChanged start new ⌝ }
 {
     let NewIds::Allowed(gids) = new else {
-        return Answer::NotPermitted;
+        return Answer::NotPermitted(Cause::IdNotAllowed);
     };
     let mut next = start;
     next.gids = gids;

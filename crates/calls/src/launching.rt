@@ -8,6 +8,7 @@ use credentials::Sets;
 use credentials::securebits::SECBIT_KEEP_CAPS;
 use credentials::securebits::SECBIT_NOROOT;
 use rules::Answer;
+use rules::Cause;
 ghost use mathlib.Core.Path.{_≡_};
 ghost use Rattle.rules.specs.Launching.{changesEffective, counted, countedSet, effectiveId, fallsShort, fileRead, gained, ignoresSetId, inForce, launch, launched, launchedAmbient, launchedEffective, launchedIds, launchedSets, rootCounts};
 
@@ -41,7 +42,7 @@ pub(crate) fn launch(
         return Answer::UnreadableAttribute;
     };
     if falls_short(start.sets, file) {
-        return Answer::NotPermitted;
+        return Answer::NotPermitted(Cause::LaunchFallsShort);
     }
     Answer::Done {
         value: 0,

@@ -3,6 +3,7 @@ use capabilities::header::CAP_SETPCAP;
 use capabilities::sets;
 use credentials::Credentials;
 use rules::Answer;
+use rules::Cause;
 ghost use mathlib.Core.Path.{_≡_};
 ghost use Rattle.rules.specs.Securebits.{getSecurebits, setSecurebits};
 
@@ -14,15 +15,15 @@ pub(crate) fn set_securebits(start: Credentials, bits: u64) -> Answer
     ensures { λ r. ⌜ r ≡ setSecurebits start bits ⌝ }
 {
     if sets::lacks(start.sets.effective, CAP_SETPCAP) {
-        return Answer::NotPermitted;
+        return Answer::NotPermitted(Cause::CapabilityNotEffective);
     }
     let locks = start.securebits & ALL_LOCKS;
     if sets::outside(locks, bits) {
-        return Answer::NotPermitted;
+        return Answer::NotPermitted(Cause::LockUndone);
     }
     let locked = locks / 2;
     if start.securebits & locked != bits & locked {
-        return Answer::NotPermitted;
+        return Answer::NotPermitted(Cause::LockedFlagChanged);
     }
     let mut next = start;
     next.securebits = bits;

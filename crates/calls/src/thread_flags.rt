@@ -4,6 +4,7 @@ use credentials::Credentials;
 use credentials::securebits::SECBIT_KEEP_CAPS;
 use credentials::securebits::SECBIT_KEEP_CAPS_LOCKED;
 use rules::Answer;
+use rules::Cause;
 ghost use mathlib.Core.Path.{_≡_};
 ghost use Rattle.rules.specs.ThreadFlags.{getKeepCaps, getNoNewPrivs, setKeepCaps, setNoNewPrivs};
 
@@ -12,7 +13,7 @@ pub(crate) fn set_keep_caps(start: Credentials, on: bool) -> Answer
     ensures { λ r. ⌜ r ≡ setKeepCaps start on ⌝ }
 {
     if start.securebits & SECBIT_KEEP_CAPS_LOCKED != 0 {
-        return Answer::NotPermitted;
+        return Answer::NotPermitted(Cause::LockedFlagChanged);
     }
     let mut next = start;
     if on {

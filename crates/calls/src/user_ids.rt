@@ -8,6 +8,7 @@ use credentials::Sets;
 use credentials::securebits::SECBIT_KEEP_CAPS;
 use credentials::securebits::SECBIT_NO_SETUID_FIXUP;
 use rules::Answer;
+use rules::Cause;
 use rules::NewIds;
 ghost use mathlib.Core.Path.{_≡_};
 ghost use Rattle.rules.specs.Ids.{effectiveLeft, effectiveTaken, filesystemLeft, filesystemTaken, filesystemUserIdChanged, rootLeft, setfsuid, setresuid, setreuid, setsAfter, setsAfterFilesystem, setuid, userIdsChanged};
@@ -59,7 +60,7 @@ fn user_ids_changed(start: Credentials, new: NewIds) -> Answer
     ensures { λ r. ⌜ r ≡ userIdsChanged start new ⌝ }
 {
     let NewIds::Allowed(uids) = new else {
-        return Answer::NotPermitted;
+        return Answer::NotPermitted(Cause::IdNotAllowed);
     };
     let mut next = start;
     next.uids = uids;

@@ -1,12 +1,13 @@
 -- The texts come to what is said of them, by computation. Assumes nothing.
 use mathlib.Core.Path.{refl}
-use Rattle.capabilities.specs.Sets.{minus, outside}
+use Rattle.capabilities.specs.Sets.{has, minus, outside}
 use Rattle.attribute.specs.Words.{wordAt}
 use Rattle.attribute.specs.Reader.{fileOf, lengthOf, reading, unreadable, version2}
 use Rattle.credentials.specs.Validity.{valid}
 use Rattle.rules.specs.Fields.{number}
 use Rattle.rules.specs.Launching.{ignoresSetId, ignoresAttribute, fileRead, inForce, effectiveId, launchedIds, rootCounts, countedSet, counted, changesEffective, isPrivileged, launchedAmbient, gained, launchedEffective, launchedSets, fallsShort, launched, launch}
-use Rattle.rules.specs.Decoding.{known, decode}
+use Rattle.rules.specs.Ids.{setuidAllowed, setuidIds, setuidOn, setuid}
+use Rattle.rules.specs.Decoding.{usesOne, known, decode}
 use Rattle.rules.specs.Call.{answer}
 use Rattle.rules.specs.Run.{result, run, lastOf}
 use Rattle.format.specs.Line.{hexText, decimalOf, decimalText, keyedText, linesText, readHex, readDigits, readDecimal, afterKey, readLines}
@@ -17,11 +18,12 @@ use Rattle.format.specs.Report.{resultKinds, resultText, resultsText, re
 use Rattle.format.specs.Texts.{TextsHold, times}
 
 pub texts-hold : TextsHold
-unfolding readSheet sheetAnswer sheetBuffer minus outside wordAt fileOf lengthOf reading unreadable version2 valid number ignoresSetId ignoresAttribute fileRead inForce effectiveId launchedIds rootCounts countedSet counted changesEffective isPrivileged launchedAmbient gained launchedEffective launchedSets fallsShort launched launch known decode answer result run lastOf hexText decimalOf decimalText keyedText linesText readHex readDigits readDecimal afterKey readLines idKinds uidKinds gidKinds setKinds flagKinds sheetKinds sheetText readFront stepKinds readPairs readStep readSteps readPlan resultKinds resultText resultsText reportText verdict times
+unfolding readSheet sheetAnswer sheetBuffer has minus outside wordAt fileOf lengthOf reading unreadable version2 valid number ignoresSetId ignoresAttribute fileRead inForce effectiveId launchedIds rootCounts countedSet counted changesEffective isPrivileged launchedAmbient gained launchedEffective launchedSets fallsShort launched launch setuidAllowed setuidIds setuidOn setuid usesOne known decode answer result run lastOf hexText decimalOf decimalText keyedText linesText readHex readDigits readDecimal afterKey readLines idKinds uidKinds gidKinds setKinds flagKinds sheetKinds sheetText readFront stepKinds readPairs readStep readSteps readPlan resultKinds resultText resultsText reportText verdict times
 texts-hold =
     record {
       case-2 = refl;
       refused-step = refl;
+      refused-with-a-cause = refl;
       empty = refl;
       step-257 = refl;
       leading-zero = refl;

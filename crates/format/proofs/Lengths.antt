@@ -95,10 +95,11 @@ length-lines (k ∷ ks) [] h = absurd h
 length-lines (k ∷ ks) (v ∷ vs) h =
     omega (arith, length-append (lineText k v) (linesText ks vs), length-line (k .key) (k .form) v (h .0), length-lines ks vs (h .1))
 
--- a result's two lines
-pub length-result-lines : (code value : ℕ) → length (linesText resultKinds (code ∷ value ∷ [])) ≡ 29 + length (decimalText code)
+-- a result's three lines
+pub length-result-lines : (code value cause : ℕ)
+    → length (linesText resultKinds (code ∷ value ∷ cause ∷ [])) ≡ 36 + (length (decimalText code) + length (decimalText cause))
 unfolding linesText resultKinds
-length-result-lines code value = simp (append-nil, length-append, length-keyed, length-hex) (omega arith)
+length-result-lines code value cause = simp (append-nil, length-append, length-keyed, length-hex) (omega arith)
 
 -- the digits of an attribute
 length-pairs : (bs : List ℕ) → length (pairsText bs) ≡ 2 * length bs

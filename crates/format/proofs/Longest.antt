@@ -11,12 +11,14 @@ use Rattle.credentials.specs.Validity.{valid}
 use Rattle.credentials.specs.declared.Credentials.{Credentials}
 use Rattle.rules.specs.declared.Answer.{Answer}
 use Rattle.rules.specs.declared.Answer.the-variants.{Done, NotPermitted, InvalidArgument, UnreadableAttribute, InvalidCredentials}
-use Rattle.rules.specs.Answers.{code}
+use Rattle.rules.specs.declared.Cause.{Cause}
+use Rattle.rules.specs.declared.Cause.the-variants.{CapabilityNotEffective, InheritableBeyondPermitted, InheritableBeyondBounding, PermittedGrows, EffectiveBeyondPermitted, NotInPermittedAndInheritable, AmbientRaiseForbidden, LockUndone, LockedFlagChanged, IdNotAllowed, LaunchFallsShort}
+use Rattle.rules.specs.Answers.{cause, causeNumber, code, value}
 use Rattle.rules.specs.Call.{answer}
 use Rattle.rules.specs.Run.{Step, Result, result, run, left}
 use Rattle.rules.proofs.Demand3.{demand-3}
 use Rattle.format.specs.declared.SheetReading.the-variants.{Sheet, Malformed}
-use Rattle.format.specs.Line.{linesText, Read, read, faultAt, readLines}
+use Rattle.format.specs.Line.{decimalText, linesText, Read, read, faultAt, readLines}
 use Rattle.format.specs.Sheet.{idKinds, uidKinds, gidKinds, setKinds, flagKinds, sheetKinds, sheetValues, sheetText, credentialsOf, readFront, wholeSheet, readSheet}
 use Rattle.format.specs.Step.{stepKinds, attributeKey, attributeText, stepText, readAttribute, stepOf, readStep}
 use Rattle.format.specs.Plan.{Plan, stepsText, planText, MOST-STEPS, readSteps, readPlan}
@@ -81,23 +83,35 @@ length-plan text p rest e =
 
 -- ---- reports
 
-code-small : (a : Answer) → code a ≤ 99
-code-small (Done v c) = omega arith
-code-small NotPermitted = omega arith
-code-small InvalidArgument = omega arith
-code-small UnreadableAttribute = omega arith
-code-small InvalidCredentials = omega arith
+cause-small : (why : Cause) → causeNumber why ≤ 99
+cause-small CapabilityNotEffective = omega arith
+cause-small InheritableBeyondPermitted = omega arith
+cause-small InheritableBeyondBounding = omega arith
+cause-small PermittedGrows = omega arith
+cause-small EffectiveBeyondPermitted = omega arith
+cause-small NotInPermittedAndInheritable = omega arith
+cause-small AmbientRaiseForbidden = omega arith
+cause-small LockUndone = omega arith
+cause-small LockedFlagChanged = omega arith
+cause-small IdNotAllowed = omega arith
+cause-small LaunchFallsShort = omega arith
 
-result-small : (start : Credentials) (x : Step) → result start x .code ≤ 99
-unfolding result
-result-small start x = code-small (answer start (x .number) (x .a) (x .b) (x .c) (x .attribute))
+-- a code of two digits has cause 0, and a cause of two digits has code 1
+three-digits : (a : Answer) → length (decimalText (code a)) + length (decimalText (cause a)) ≤ 3
+three-digits (Done v c) = omega (arith, at-most 0 0 (omega arith))
+three-digits (NotPermitted why) = omega (arith, at-most 0 1 (omega arith), at-most 1 (causeNumber why) (omega (arith, cause-small why)))
+three-digits InvalidArgument = omega (arith, at-most 1 22 (omega arith), at-most 0 0 (omega arith))
+three-digits UnreadableAttribute = omega (arith, at-most 1 60 (omega arith), at-most 0 0 (omega arith))
+three-digits InvalidCredentials = omega (arith, at-most 1 72 (omega arith), at-most 0 0 (omega arith))
 
--- a code's line of 8 bytes and a value's of 23
-length-result : (r : Result) → r .code ≤ 99 → length (resultText r) ≤ 31
-unfolding resultText
-length-result r h = omega (arith, length-result-lines (r .code) (r .value), at-most 1 (r .code) (omega arith))
+-- 36 bytes without the digits of code and cause
+length-result : (start : Credentials) (x : Step) → length (resultText (result start x)) ≤ 39
+unfolding resultText result
+length-result start x =
+    let a = answer start (x .number) (x .a) (x .b) (x .c) (x .attribute) in
+    omega (arith, length-result-lines (code a) (value a) (cause a), three-digits a)
 
-length-results : (start : Credentials) (xs : List Step) → length (resultsText (run start xs)) ≤ length xs * 31
+length-results : (start : Credentials) (xs : List Step) → length (resultsText (run start xs)) ≤ length xs * 39
 unfolding run resultsText
 length-results start [] = omega arith
 length-results start (x ∷ xs) =
@@ -106,7 +120,7 @@ length-results start (x ∷ xs) =
     omega (
       arith,
       length-append (resultText r) (resultsText rs),
-      length-result r (result-small start x),
+      length-result start x,
       length-results (r .after) xs,
     )
 

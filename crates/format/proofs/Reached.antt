@@ -78,8 +78,8 @@ text-verdict = ap judged text-read
 sheet-written : sheetText start ≡ sheet
 sheet-written = sym (sheet-round-trip .read-written sheet start sheet-read .0)
 
--- 256 times 31 bytes
-results-length : length (resultsText (run start (plan .steps))) ≡ 7936
+-- 256 times 39 bytes
+results-length : length (resultsText (run start (plan .steps))) ≡ 9984
 unfolding valid decode answer result run hexText decimalOf decimalText keyedText linesText resultKinds resultText resultsText
 results-length = refl
 

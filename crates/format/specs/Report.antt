@@ -11,14 +11,14 @@ use Rattle.format.specs.Line.{Kind, kind, decimal, hex, linesText, Read,
 use Rattle.format.specs.Sheet.{sheetText}
 use Rattle.format.specs.Plan.{Plan, readPlan}
 
--- the two lines of a step's result: code in decimal, value in 16 hex digits
+-- the three lines of a step's result: code in decimal, value in 16 hex digits, cause in decimal ("Why it was refused")
 unfoldable pub resultKinds : List Kind
-resultKinds = kind "code=" (decimal 99) ∷ kind "value=" (hex 16) ∷ []
+resultKinds = kind "code=" (decimal 99) ∷ kind "value=" (hex 16) ∷ kind "cause=" (decimal 11) ∷ []
 
 unfoldable pub resultText : Result → List ℕ
-resultText r = linesText resultKinds (r .code ∷ r .value ∷ [])
+resultText r = linesText resultKinds (r .code ∷ r .value ∷ r .cause ∷ [])
 
--- a pair of lines for each result
+-- three lines for each result
 unfoldable pub resultsText : List Result → List ℕ
 resultsText [] = []
 resultsText (r ∷ rs) = resultText r ++ resultsText rs

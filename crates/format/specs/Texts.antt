@@ -65,7 +65,7 @@ pub record TextsHold : Type 0 where
   -- the whole report of case 2, as the paper prints it
   pub case-2 : verdict (start ++ plain)
       ≡ report
-      (bytes "code=0\nvalue=0000000000000000\n"
+      (bytes "code=0\nvalue=0000000000000000\ncause=0\n"
       ++ bytes "ruid=1000\neuid=1000\nsuid=1000\nfsuid=1000\nrgid=1000\negid=1000\nsgid=1000\nfsgid=1000\n"
       ++ bytes "permitted=0000000000002000\ninheritable=0000000000002000\neffective=0000000000002000\n"
       ++ bytes "bounding=000001ffffffffff\nambient=0000000000002000\nsecurebits=00\nnnp=0\n")
@@ -75,10 +75,13 @@ pub record TextsHold : Type 0 where
       ++ bytes "call=99\na=0000000000000000\nb=0000000000000000\nc=0000000000000000\nattr=\n"
       ++ launch ++ bytes "attr=0100000200040000000000000000000000000000\n")
       ≡ report
-      (bytes "code=22\nvalue=0000000000000000\ncode=0\nvalue=0000000000000000\n"
+      (bytes "code=22\nvalue=0000000000000000\ncause=0\ncode=0\nvalue=0000000000000000\ncause=0\n"
       ++ bytes "ruid=1000\neuid=1000\nsuid=1000\nfsuid=1000\nrgid=1000\negid=1000\nsgid=1000\nfsgid=1000\n"
       ++ bytes "permitted=0000000000000400\ninheritable=0000000000002000\neffective=0000000000000400\n"
       ++ bytes "bounding=000001ffffffffff\nambient=0000000000000000\nsecurebits=00\nnnp=0\n")
+  -- a refusal by the rules has a cause: setuid to another ID than the thread's own
+  pub refused-with-a-cause : verdict (start ++ bytes "call=15\na=0000000000000000\nb=0000000000000000\nc=0000000000000000\nattr=\n")
+      ≡ report (bytes "code=1\nvalue=0000000000000000\ncause=10\n" ++ start)
   -- empty text gives line 1
   pub empty : verdict [] ≡ malformed 1
   -- a 257th step gives line 1296
@@ -104,6 +107,6 @@ pub record TextsHold : Type 0 where
   pub written-sheet : sheetBuffer (held 1000) (sevens 238) ≡ start ++ (7 ∷ 7 ∷ [])
   -- the plan runner: bytes past the report stay
   pub written-report : buffer (verdict start) (sevens 238) ≡ start ++ (7 ∷ 7 ∷ [])
-  -- the C interface's number, code times 4294967296 plus line or length: case 2 and its 266 bytes; a byte less room, 28; a fault at line 16; 72
-  pub numbers : numberOf (start ++ plain) 266 ∷ numberOf (start ++ plain) 265 ∷ numberOf (start ++ bytes "\n") 266 ∷ numberOf noId 266 ∷ []
-      ≡ 266 ∷ (28 * 4294967296) ∷ (70 * 4294967296 + 16) ∷ (72 * 4294967296) ∷ []
+  -- the C interface's number, code times 4294967296 plus line or length: case 2 and its 274 bytes; a byte less room, 28; a fault at line 16; 72
+  pub numbers : numberOf (start ++ plain) 274 ∷ numberOf (start ++ plain) 273 ∷ numberOf (start ++ bytes "\n") 274 ∷ numberOf noId 274 ∷ []
+      ≡ 274 ∷ (28 * 4294967296) ∷ (70 * 4294967296 + 16) ∷ (72 * 4294967296) ∷ []

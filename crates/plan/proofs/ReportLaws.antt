@@ -27,38 +27,44 @@ use Rattle.line_writer.proofs.LineLaws.{sets-append, lines-put}
 use Rattle.sheet_writer.specs.Positions.{bufferAt, bufferBy}
 use Rattle.sheet_writer.proofs.Answers.{buffer-by-the-table}
 use Rattle.rules.proofs.Demand3.{demand-3}
-use Rattle.plan.specs.Inside.{Ran, codesOf, valuesOf, ranOf, ranSteps, answersText}
+use Rattle.plan.specs.Inside.{Ran, codesOf, valuesOf, causesOf, ranOf, ranSteps, answersText}
 
 -- ---- the results' lines
 
-module _ (codes values : List ℕ) (n : ℕ) (p : n ≤ length codes) (q : n ≤ length values) where
+module _ (codes values causes : List ℕ) (n : ℕ) (p : n ≤ length codes) (q : n ≤ length values) (r : n ≤ length causes) where
   -- the lines from the j-th result on
   abbrev linesFrom : ℕ → List ℕ
-  linesFrom j = answersText (drop j (take n codes)) (drop j (take n values))
+  linesFrom j = answersText (drop j (take n codes)) (drop j (take n values)) (drop j (take n causes))
 
-  pub lines-step : (j : ℕ) → j < n → linesFrom j ≡ linesText resultKinds (getD codes j 0 ∷ getD values j 0 ∷ []) ++ linesFrom (j + 1)
+  -- the j-th code, value and cause
+  abbrev resultAt : ℕ → List ℕ
+  resultAt j = getD codes j 0 ∷ getD values j 0 ∷ getD causes j 0 ∷ []
+
+  pub lines-step : (j : ℕ) → j < n → linesFrom j ≡ linesText resultKinds (resultAt j) ++ linesFrom (j + 1)
   unfolding answersText
   lines-step j h =
       let c = drop-cons (take n codes) j 0 (omega (arith, h, length-take-le n codes p)) in
       let v = drop-cons (take n values) j 0 (omega (arith, h, length-take-le n values q)) in
-      rw (c, v, getD-take n codes j 0 h, getD-take n values j 0 h, add-one j)
+      let w = drop-cons (take n causes) j 0 (omega (arith, h, length-take-le n causes r)) in
+      rw (c, v, w, getD-take n codes j 0 h, getD-take n values j 0 h, getD-take n causes j 0 h, add-one j)
 
   pub lines-end : (j : ℕ) → n ≤ j → linesFrom j ≡ []
   unfolding answersText
   lines-end j h = rw (drop-of-length-le (take n codes) {i = j} (omega (arith, h, length-take-le n codes p)))
 
-  pub lines-length : (j : ℕ) → j < n → length (linesFrom j) ≡ 29 + length (decimalText (getD codes j 0)) + length (linesFrom (j + 1))
+  pub lines-length : (j : ℕ) → j < n → length (linesFrom j)
+      ≡ 36 + (length (decimalText (getD codes j 0)) + length (decimalText (getD causes j 0))) + length (linesFrom (j + 1))
   lines-length j h =
       ap length (lines-step j h)
-      ∙ length-append (linesText resultKinds (getD codes j 0 ∷ getD values j 0 ∷ [])) (linesFrom (j + 1))
-      ∙ rw (length-result-lines (getD codes j 0) (getD values j 0))
+      ∙ length-append (linesText resultKinds (resultAt j)) (linesFrom (j + 1))
+      ∙ rw (length-result-lines (getD codes j 0) (getD values j 0) (getD causes j 0))
 
   -- one result's lines more
-  pub put-lines : (old buf : List ℕ) (at past j : ℕ) → j < n → past ≡ at + length (linesText resultKinds (getD codes j 0 ∷ getD values j 0 ∷ []))
-      → buf ≡ sets old at (linesText resultKinds (getD codes j 0 ∷ getD values j 0 ∷ []))
+  pub put-lines : (old buf : List ℕ) (at past j : ℕ) → j < n → past ≡ at + length (linesText resultKinds (resultAt j))
+      → buf ≡ sets old at (linesText resultKinds (resultAt j))
       → sets old at (linesFrom j) ≡ sets buf past (linesFrom (j + 1))
   put-lines old buf at past j h e f =
-      rw (lines-step j h, e, f) (sets-append (linesText resultKinds (getD codes j 0 ∷ getD values j 0 ∷ [])) (linesFrom (j + 1)) old at)
+      rw (lines-step j h, e, f) (sets-append (linesText resultKinds (resultAt j)) (linesFrom (j + 1)) old at)
 
 -- by the table for writing, the lines of a result that fit are the format's
 pub result-put : (table vs old : List ℕ) (at : ℕ) → table ≡ writingTable → at + length (linesText resultKinds vs) ≤ length old
@@ -71,10 +77,10 @@ result-put table vs old at e h =
 
 -- ---- the report
 
-results-text : (rs : List Result) → resultsText rs ≡ answersText (codesOf rs) (valuesOf rs)
-unfolding resultsText resultText answersText codesOf valuesOf
+results-text : (rs : List Result) → resultsText rs ≡ answersText (codesOf rs) (valuesOf rs) (causesOf rs)
+unfolding resultsText resultText answersText codesOf valuesOf causesOf
 results-text [] = refl
-results-text (r ∷ rs) = ap (λ (t : List ℕ). linesText resultKinds (r .code ∷ r .value ∷ []) ++ t) (results-text rs)
+results-text (r ∷ rs) = ap (λ (t : List ℕ). linesText resultKinds (r .code ∷ r .value ∷ r .cause ∷ []) ++ t) (results-text rs)
 
 module _ (a s old : List ℕ) where
   pub report-done : (one two : List ℕ) (at size : ℕ) → size ≡ length a + length s → size ≤ length old → at ≡ length a → one ≡ sets old 0 a
@@ -115,12 +121,12 @@ module _ (text : List ℕ) where
   steps-at-fault c rest line h g = rw (h, mapped-fault (ranOf c) (readSteps 256 rest) line g)
 
   pub plan-ran : (c : Credentials) (rest : List ℕ) (x : Ran) → readFront text ≡ read c rest → ranSteps 256 c rest ≡ read x []
-      → verdict text ≡ cond (valid c) (report (answersText (x .codes) (x .values) ++ sheetText (x .last))) invalid
+      → verdict text ≡ cond (valid c) (report (answersText (x .codes) (x .values) (x .causes) ++ sheetText (x .last))) invalid
   unfolding verdict readPlan ranSteps reportText
   plan-ran c rest x h g =
       let s = mapped-told x [] (ranOf c) (readSteps 256 rest) g in
       rw (h, s .1, results-text (run c (s .0)))
-      (ap (λ (y : Ran). cond (valid c) (report (answersText (y .codes) (y .values) ++ sheetText (y .last))) invalid) (s .2))
+      (ap (λ (y : Ran). cond (valid c) (report (answersText (y .codes) (y .values) (y .causes) ++ sheetText (y .last))) invalid) (s .2))
 
   -- what a plan that starts valid leaves is valid: demand 3
   pub last-valid : (c : Credentials) (rest : List ℕ) (x : Ran) → valid c ≡ true → ranSteps 256 c rest ≡ read x [] → valid (x .last) ≡ true

@@ -20,7 +20,7 @@ use Rattle.line_reader.specs.Positions.{from, Values, linesBy, attributeBy}
 use Rattle.line_reader.specs.Inside.{seen}
 use Rattle.line_reader.proofs.Answers.{lines-read, lines-most, lines-counted}
 use Rattle.line_reader.proofs.Attributes.{attribute-read, attribute-missed, attribute-skipped}
-use Rattle.plan.specs.Inside.{Ran, codesOf, valuesOf, ranOf, ranSteps}
+use Rattle.plan.specs.Inside.{Ran, codesOf, valuesOf, causesOf, ranOf, ranSteps}
 
 -- ---- one step
 
@@ -80,33 +80,34 @@ module _ {A : Type 0} (f : Step → A) (table text : List ℕ) (at : ℕ) (vs : 
 
 -- one result in front
 abbrev after : Result → Ran → Ran
-after r x = record { codes = r .code ∷ x .codes; values = r .value ∷ x .values; last = x .last }
+after r x = record { codes = r .code ∷ x .codes; values = r .value ∷ x .values; causes = r .cause ∷ x .causes; last = x .last }
 
--- codes and values in front of those of the steps to come
-abbrev pub grown : List ℕ → List ℕ → Read Ran → Read Ran
-grown cs vs (read x t) = read (record { codes = cs ++ x .codes; values = vs ++ x .values; last = x .last }) t
-grown cs vs (faultAt line) = faultAt (5 * length cs + line)
+-- codes, values and causes in front of those of the steps to come
+abbrev pub grown : List ℕ → List ℕ → List ℕ → Read Ran → Read Ran
+grown cs vs ws (read x t) = read (record { codes = cs ++ x .codes; values = vs ++ x .values; causes = ws ++ x .causes; last = x .last }) t
+grown cs vs ws (faultAt line) = faultAt (5 * length cs + line)
 
 one-run : (c : Credentials) (s : Step) (r : Read (List Step))
     → mapped (ranOf c) (below 5 (mapped (λ ss. s ∷ ss) r)) ≡ below 5 (mapped (after (result c s)) (mapped (ranOf (result c s .after)) r))
-unfolding run lastOf codesOf valuesOf
+unfolding run lastOf codesOf valuesOf causesOf
 one-run c s (read ss t) = refl
 one-run c s (faultAt line) = refl
 
-grown-one : (cs vs : List ℕ) (r : Result) (x : Read Ran)
-    → grown cs vs (below 5 (mapped (after r) x)) ≡ grown (cs ++ (r .code ∷ [])) (vs ++ (r .value ∷ [])) x
-grown-one cs vs r (read x t) =
+grown-one : (cs vs ws : List ℕ) (r : Result) (x : Read Ran)
+    → grown cs vs ws (below 5 (mapped (after r) x)) ≡ grown (cs ++ (r .code ∷ [])) (vs ++ (r .value ∷ [])) (ws ++ (r .cause ∷ [])) x
+grown-one cs vs ws r (read x t) =
     let p : cs ++ (r .code ∷ x .codes) ≡ (cs ++ (r .code ∷ [])) ++ x .codes = sym (append-assoc cs (r .code ∷ []) (x .codes)) in
     let q : vs ++ (r .value ∷ x .values) ≡ (vs ++ (r .value ∷ [])) ++ x .values = sym (append-assoc vs (r .value ∷ []) (x .values)) in
-    λ i. read (record { codes = p i; values = q i; last = x .last }) t
-grown-one cs vs r (faultAt line) =
+    let o : ws ++ (r .cause ∷ x .causes) ≡ (ws ++ (r .cause ∷ [])) ++ x .causes = sym (append-assoc ws (r .cause ∷ []) (x .causes)) in
+    λ i. read (record { codes = p i; values = q i; causes = o i; last = x .last }) t
+grown-one cs vs ws r (faultAt line) =
     let e : 5 * length cs + (5 + line) ≡ 5 * length (cs ++ (r .code ∷ [])) + line = omega (arith, length-append cs (r .code ∷ [])) in
     ap faultAt e
 
 module _ (i : ℕ) (text : List ℕ) (c : Credentials) where
   -- the text is at its end
-  pub steps-end : (n : ℕ) → length text ≤ i → ranSteps n c (drop i text) ≡ read (record { codes = []; values = []; last = c }) []
-  unfolding ranSteps readSteps run lastOf codesOf valuesOf
+  pub steps-end : (n : ℕ) → length text ≤ i → ranSteps n c (drop i text) ≡ read (record { codes = []; values = []; causes = []; last = c }) []
+  unfolding ranSteps readSteps run lastOf codesOf valuesOf causesOf
   steps-end zero h = rw (drop-of-length-le text h)
   steps-end (suc n) h = rw (drop-of-length-le text h)
 
@@ -132,22 +133,22 @@ module _ (i : ℕ) (text : List ℕ) (c : Credentials) where
       rw (e, add-one m, d, s .1) (one-run c (s .0) (readSteps m rest) ∙ rw (s .2))
 
   -- a step more
-  pub steps-step : (n m : ℕ) (cs vs : List ℕ) (r : Result) (rest : List ℕ) → n ≡ m + 1 → i < length text
+  pub steps-step : (n m : ℕ) (cs vs ws : List ℕ) (r : Result) (rest : List ℕ) → n ≡ m + 1 → i < length text
       → mapped (result c) (readStep (drop i text)) ≡ read r rest
-      → grown cs vs (ranSteps n c (drop i text)) ≡ grown (cs ++ (r .code ∷ [])) (vs ++ (r .value ∷ [])) (ranSteps m (r .after) rest)
-  steps-step n m cs vs r rest e h g = ap (grown cs vs) (one-step n m r rest e h g) ∙ grown-one cs vs r (ranSteps m (r .after) rest)
+      → grown cs vs ws (ranSteps n c (drop i text)) ≡ grown (cs ++ (r .code ∷ [])) (vs ++ (r .value ∷ [])) (ws ++ (r .cause ∷ [])) (ranSteps m (r .after) rest)
+  steps-step n m cs vs ws r rest e h g = ap (grown cs vs ws) (one-step n m r rest e h g) ∙ grown-one cs vs ws r (ranSteps m (r .after) rest)
 
 -- nothing before, and nothing to come
-pub grown-none : (x : Read Ran) → x ≡ grown [] [] x
+pub grown-none : (x : Read Ran) → x ≡ grown [] [] [] x
 grown-none (read x t) = refl
 grown-none (faultAt line) = let e : line ≡ 5 * 0 + line = omega arith in ap faultAt e
 
-pub grown-all : (cs vs : List ℕ) (c : Credentials)
-    → grown cs vs (read (record { codes = []; values = []; last = c }) []) ≡ read (record { codes = cs; values = vs; last = c }) []
-grown-all cs vs c = λ i. read (record { codes = append-nil cs i; values = append-nil vs i; last = c }) []
+pub grown-all : (cs vs ws : List ℕ) (c : Credentials)
+    → grown cs vs ws (read (record { codes = []; values = []; causes = []; last = c }) []) ≡ read (record { codes = cs; values = vs; causes = ws; last = c }) []
+grown-all cs vs ws c = λ i. read (record { codes = append-nil cs i; values = append-nil vs i; causes = append-nil ws i; last = c }) []
 
 -- a fault after so many steps
-pub grown-fault : (codes vs : List ℕ) (n line : ℕ) → n ≤ length codes → grown (take n codes) vs (faultAt line) ≡ faultAt (5 * n + line)
-grown-fault codes vs n line h =
+pub grown-fault : (codes vs ws : List ℕ) (n line : ℕ) → n ≤ length codes → grown (take n codes) vs ws (faultAt line) ≡ faultAt (5 * n + line)
+grown-fault codes vs ws n line h =
     let e : 5 * length (take n codes) + line ≡ 5 * n + line = omega (arith, length-take-le n codes h) in
     ap faultAt e

@@ -17,7 +17,7 @@ use Rattle.plan.specs.declared.runner.StepsRun.the-variants as steps
 
 -- the result of a step, and the text after it is told by its position
 abbrev pub sameResult : StepResult → Result
-sameResult r = record { code = r .code; value = r .value; after = r .after }
+sameResult r = record { code = r .code; value = r .value; cause = r .cause; after = r .after }
 
 abbrev pub seenStep : StepRun → List ℕ → Read Result
 seenStep (step.Done r next) text = read (sameResult r) (drop next text)
@@ -29,10 +29,11 @@ StepEnd (step.Fault line) = line ≤ 5
 
 -- ---- the steps
 
--- what steps give: their codes, their values and the last state
+-- what steps give: their codes, their values, their causes and the last state
 pub record Ran : Type 0 where
   pub codes : List ℕ
   pub values : List ℕ
+  pub causes : List ℕ
   pub last : Credentials
 
 unfoldable pub codesOf : List Result → List ℕ
@@ -43,17 +44,22 @@ unfoldable pub valuesOf : List Result → List ℕ
 valuesOf [] = []
 valuesOf (r ∷ rs) = r .value ∷ valuesOf rs
 
+unfoldable pub causesOf : List Result → List ℕ
+causesOf [] = []
+causesOf (r ∷ rs) = r .cause ∷ causesOf rs
+
 abbrev pub ranOf : Credentials → List Step → Ran
-ranOf start ss = record { codes = codesOf (run start ss); values = valuesOf (run start ss); last = left start ss }
+ranOf start ss =
+    record { codes = codesOf (run start ss); values = valuesOf (run start ss); causes = causesOf (run start ss); last = left start ss }
 
 -- up to n steps, read and run
 unfoldable pub ranSteps : ℕ → Credentials → List ℕ → Read Ran
 ranSteps n start text = mapped (ranOf start) (readSteps n text)
 
--- codes and values stand at the front of two arrays
-abbrev pub seenSteps : StepsRun → List ℕ → List ℕ → Read Ran
-seenSteps (steps.Done n last) codes values = read (record { codes = take n codes; values = take n values; last = last }) []
-seenSteps (steps.Fault line) codes values = faultAt line
+-- codes, values and causes stand at the front of three arrays
+abbrev pub seenSteps : StepsRun → List ℕ → List ℕ → List ℕ → Read Ran
+seenSteps (steps.Done n last) codes values causes = read (record { codes = take n codes; values = take n values; causes = take n causes; last = last }) []
+seenSteps (steps.Fault line) codes values causes = faultAt line
 
 abbrev pub StepsEnd : StepsRun → Type 0
 StepsEnd (steps.Done n last) = n ≤ 256
@@ -61,8 +67,13 @@ StepsEnd (steps.Fault line) = line ≤ 1281
 
 -- ---- the report
 
--- the two lines of each code and value
-unfoldable pub answersText : List ℕ → List ℕ → List ℕ
-answersText [] vs = []
-answersText (c ∷ cs) [] = []
-answersText (c ∷ cs) (v ∷ vs) = linesText resultKinds (c ∷ v ∷ []) ++ answersText cs vs
+-- the three lines of each code, value and cause
+unfoldable pub answersText : List ℕ → List ℕ → List ℕ → List ℕ
+answersText [] vs ws = []
+answersText (c ∷ cs) [] ws = []
+answersText (c ∷ cs) (v ∷ vs) [] = []
+answersText (c ∷ cs) (v ∷ vs) (w ∷ ws) = linesText resultKinds (c ∷ v ∷ w ∷ []) ++ answersText cs vs ws
+
+-- of the first n of each
+abbrev pub firstAnswers : ℕ → List ℕ → List ℕ → List ℕ → List ℕ
+firstAnswers n codes values causes = answersText (take n codes) (take n values) (take n causes)

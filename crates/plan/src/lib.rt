@@ -8,7 +8,7 @@ mod step;
 
 pub use runner::run_plan;
 
-// The most steps of a plan; the arrays that hold their codes and values are that long.
+// The most steps of a plan; the arrays that hold their codes, values and causes are that long.
 const MOST_STEPS: usize = 256;
 
 // How many lines a sheet and a step have.

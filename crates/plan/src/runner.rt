@@ -27,18 +27,19 @@ enum StepsRun {
     Fault(u32),
 }
 
-// The steps from the position first to the end of the text, the first of them on the credentials start. Their codes and values are the first of
-// the two arrays.
+// The steps from the position first to the end of the text, the first of them on the credentials start. Their codes, values and
+// causes are the first of the three arrays.
 fn run_steps(
     text: &[u8],
     first: usize,
     start: Credentials,
     codes: &mut [u8; 256],
     values: &mut [u64; 256],
+    causes: &mut [u8; 256],
     table: &[u8; 256],
 ) -> StepsRun
-    requires { ⌜ (length (now codes) ≡ 256) × (length (now values) ≡ 256) × (now table ≡ readingTable) ⌝ }
-    ensures { λ r. ⌜ (seenSteps r (now (codes .exit)) (now (values .exit)) ≡ ranSteps 256 start (drop first (now (text .entry)))) × StepsEnd r × (length (now (codes .exit)) ≡ 256) × (length (now (values .exit)) ≡ 256) ⌝ }
+    requires { ⌜ (length (now codes) ≡ 256) × (length (now values) ≡ 256) × (length (now causes) ≡ 256) × (now table ≡ readingTable) ⌝ }
+    ensures { λ r. ⌜ (seenSteps r (now (codes .exit)) (now (values .exit)) (now (causes .exit)) ≡ ranSteps 256 start (drop first (now (text .entry)))) × StepsEnd r × (length (now (codes .exit)) ≡ 256) × (length (now (values .exit)) ≡ 256) × (length (now (causes .exit)) ≡ 256) ⌝ }
 {
     let mut held = start;
     let mut at = first;
@@ -54,6 +55,7 @@ fn run_steps(
             StepRun::Done(given, next) => {
                 codes[count] = given.code;
                 values[count] = given.value;
+                causes[count] = given.cause;
                 held = given.after;
                 at = next;
                 count += 1;
@@ -96,13 +98,22 @@ fn run_from(
 {
     let mut codes = [0u8; 256];
     let mut values = [0u64; 256];
-    match run_steps(plan, first, start, &mut codes, &mut values, reading) {
+    let mut causes = [0u8; 256];
+    match run_steps(
+        plan,
+        first,
+        start,
+        &mut codes,
+        &mut values,
+        &mut causes,
+        reading,
+    ) {
         StepsRun::Fault(line) => {
             return refused(MALFORMED, SHEET_LINES + line);
         }
         StepsRun::Done(count, last) => {
             if accepted {
-                return write_report(report, &codes, &values, count, last, writing);
+                return write_report(report, &codes, &values, &causes, count, last, writing);
             }
             return refused(INVALID_CREDENTIALS, 0);
         }

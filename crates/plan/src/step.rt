@@ -26,10 +26,11 @@ struct Operands {
     place: Place,
 }
 
-// What a step gives: its code, its value and the credentials after it.
+// What a step gives: its code, its value, its cause and the credentials after it.
 pub(crate) struct StepResult {
     pub code: u8,
     pub value: u64,
+    pub cause: u8,
     pub after: Credentials,
 }
 
@@ -86,6 +87,7 @@ pub(crate) fn run_step(text: &[u8], at: usize, held: Credentials, table: &[u8; 2
     let given = StepResult {
         code: answers::code(answer),
         value: answers::value(answer),
+        cause: answers::cause(answer),
         after: answers::after(held, answer),
     };
     StepRun::Done(given, end.at)

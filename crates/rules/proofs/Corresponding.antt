@@ -12,7 +12,7 @@ use Rattle.credentials.specs.Validity.{idsInRange, valid}
 use Rattle.credentials.specs.declared.Ids.{Ids}
 use Rattle.credentials.specs.declared.Credentials.{Credentials}
 use Rattle.credentials.proofs.Valid.{ids-in-range, valid-facts}
-use Rattle.rules.specs.Answers.{after, code, value}
+use Rattle.rules.specs.Answers.{after, cause, code, value}
 use Rattle.rules.specs.Ids.{filesystemGroupIdChanged, filesystemUserIdChanged, groupIdsChanged, maySetAnyGroupId, maySetAnyUserId, setfsgid, setfsuid, setfsuidOn, setgid, setregid, setresgid, setresuid, setresuidOn, setreuid, setreuidOn, setuid, setuidOn, userIdsChanged}
 use Rattle.rules.specs.Decoding.{decode, known}
 use Rattle.rules.specs.Call.{answer, decoded, performed}
@@ -107,20 +107,21 @@ module _ (c d : Credentials) (w : Counterpart c d) where
   record Same (r q : Answer) : Type 0 where
     codes : code r ≡ code q
     values : value r ≡ value q
+    causes : cause r ≡ cause q
     ids : after c r .gids ≡ after d q .uids
 
   refused : Same InvalidArgument InvalidArgument
-  refused = record { codes = refl; values = refl; ids = sym (w .ids) }
+  refused = record { codes = refl; values = refl; causes = refl; ids = sym (w .ids) }
 
   invalid : Same InvalidCredentials InvalidCredentials
-  invalid = record { codes = refl; values = refl; ids = sym (w .ids) }
+  invalid = record { codes = refl; values = refl; causes = refl; ids = sym (w .ids) }
 
   same-change : (n m : NewIds) → n ≡ m → Same (groupIdsChanged c n) (userIdsChanged d m)
   same-change n m e = subst (λ (x : NewIds). Same (groupIdsChanged c n) (userIdsChanged d x)) e (either n)
     where
       either : (x : NewIds) → Same (groupIdsChanged c x) (userIdsChanged d x)
-      either (Allowed new) = record { codes = refl; values = refl; ids = refl }
-      either NotAllowed = record { codes = refl; values = refl; ids = sym (w .ids) }
+      either (Allowed new) = record { codes = refl; values = refl; causes = refl; ids = refl }
+      either NotAllowed = record { codes = refl; values = refl; causes = refl; ids = sym (w .ids) }
 
   same-filesystem-change : (n m : NewIds) → n ≡ m → Same (filesystemGroupIdChanged c n) (filesystemUserIdChanged d m)
   same-filesystem-change n m e = subst (λ (x : NewIds). Same (filesystemGroupIdChanged c n) (filesystemUserIdChanged d x)) e (either n)
@@ -129,8 +130,8 @@ module _ (c d : Credentials) (w : Counterpart c d) where
       old = ap (λ (u : Ids). u .filesystem) (sym (w .ids))
 
       either : (x : NewIds) → Same (filesystemGroupIdChanged c x) (filesystemUserIdChanged d x)
-      either (Allowed new) = record { codes = refl; values = old; ids = refl }
-      either NotAllowed = record { codes = refl; values = old; ids = sym (w .ids) }
+      either (Allowed new) = record { codes = refl; values = old; causes = refl; ids = refl }
+      either NotAllowed = record { codes = refl; values = old; causes = refl; ids = sym (w .ids) }
 
   -- what depends on the four IDs and on whether any may be set is the same of both
   alike : (f : Bool → Ids → NewIds) → f (maySetAnyGroupId c) (c .gids) ≡ f (maySetAnyUserId d) (d .uids)
@@ -212,6 +213,7 @@ calls-on-ids =
       group-ids-stay = λ c x n. on-user-ids c (x .a) (x .b) (x .c) (x .attribute) (x .number) (n .0) (n .1);
       same-code = λ c d w x n. like c d w x n .codes;
       same-value = λ c d w x n. like c d w x n .values;
+      same-cause = λ c d w x n. like c d w x n .causes;
       same-ids = λ c d w x n. like c d w x n .ids;
       counterpart = λ c.
           let any = maySetAnyGroupId c in (

@@ -63,7 +63,7 @@ sets-change v h = record { uids = v .uids; gids = v .gids; sets = h; securebits 
 -- an answer that is done keeps what is to be kept
 abbrev Keeps : Bool → Credentials → Answer → Type 0
 Keeps x c (Done v d) = Kept x c d
-Keeps x c NotPermitted = Unit {0}
+Keeps x c (NotPermitted why) = Unit {0}
 Keeps x c InvalidArgument = Unit {0}
 Keeps x c UnreadableAttribute = Unit {0}
 Keeps x c InvalidCredentials = Unit {0}
@@ -72,8 +72,8 @@ Keeps x c InvalidCredentials = Unit {0}
 pub kept-by : {c : Credentials} → Valid c → (x : Bool) (r : Answer) → Keeps x c r → Kept (x && eqb (code r) 0) c (after c r)
 kept-by v true (Done n d) k = k
 kept-by v false (Done n d) k = k
-kept-by v true NotPermitted k = nothing-changes v
-kept-by v false NotPermitted k = nothing-changes v
+kept-by v true (NotPermitted why) k = nothing-changes v
+kept-by v false (NotPermitted why) k = nothing-changes v
 kept-by v true InvalidArgument k = nothing-changes v
 kept-by v false InvalidArgument k = nothing-changes v
 kept-by v true UnreadableAttribute k = nothing-changes v

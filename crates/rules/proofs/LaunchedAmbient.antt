@@ -20,6 +20,7 @@ use Rattle.rules.specs.Run.{result}
 use Rattle.rules.specs.AmbientAfterLaunch.{AmbientAfterLaunch, ambientAfter, attributeCounts, wasChanged}
 use Rattle.rules.specs.declared.Answer.{Answer}
 use Rattle.rules.specs.declared.Answer.the-variants.{Done, InvalidArgument, InvalidCredentials, NotPermitted, UnreadableAttribute}
+use Rattle.rules.specs.declared.Cause.the-variants.{LaunchFallsShort}
 use Rattle.rules.specs.declared.Call.the-variants.{Execve}
 use Rattle.rules.proofs.Conditions.{cond-cases, cond-with}
 use Rattle.rules.proofs.OneCall.{answered}
@@ -68,7 +69,7 @@ module _ (start : Credentials) (owner flags group : ℕ) (s : List ℕ) where
       λ i. cond (e i || by-user i || by-group i) 0 (start .sets .ambient)
 
   launch-of-says : (r : Reading) → Attached (attributeCounts (start .nnp) flags s) r → Says (launchOf start owner flags group r)
-  launch-of-says (File f) e = cond-cases Says (fallsShort (start .sets) f) _ _ (λ t. refused NotPermitted refl) (λ t. launched-says f e)
+  launch-of-says (File f) e = cond-cases Says (fallsShort (start .sets) f) _ _ (λ t. refused (NotPermitted LaunchFallsShort) refl) (λ t. launched-says f e)
   launch-of-says Unreadable e = refused UnreadableAttribute refl
 
   answer-says : Says (answer start 1 owner flags group s)

@@ -11,3 +11,4 @@ pub mod OneLaunch
 pub mod Demand3
 pub mod Flags
 pub mod LaunchedAmbient
+pub mod WhyRefused

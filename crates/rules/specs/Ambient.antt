@@ -8,6 +8,7 @@ use Rattle.credentials.specs.declared.Credentials.{Credentials}
 use Rattle.rules.specs.Fields.{isSet, number, withAmbient, withSets}
 use Rattle.rules.specs.declared.Answer.{Answer}
 use Rattle.rules.specs.declared.Answer.the-variants.{Done, NotPermitted}
+use Rattle.rules.specs.declared.Cause.the-variants.{NotInPermittedAndInheritable, AmbientRaiseForbidden}
 
 -- raise, first test: the capability is missing from P or from I
 abbrev pub notInBoth : Sets → ℕ → Bool
@@ -20,8 +21,8 @@ raiseForbidden securebits = isSet securebits SECBIT-NO-CAP-AMBIENT-RAISE
 -- call 5, raise: the capability comes into A
 unfoldable pub ambientRaise : Credentials → ℕ → Answer
 ambientRaise c n =
-    cond (notInBoth (c .sets) n) NotPermitted
-    (cond (raiseForbidden (c .securebits)) NotPermitted
+    cond (notInBoth (c .sets) n) (NotPermitted NotInPermittedAndInheritable)
+    (cond (raiseForbidden (c .securebits)) (NotPermitted AmbientRaiseForbidden)
     (Done 0 (withSets c (withAmbient (c .sets) (union (c .sets .ambient) (single n))))))
 
 -- call 6, lower: the capability leaves A, and nothing is needed

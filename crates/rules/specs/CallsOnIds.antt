@@ -37,10 +37,12 @@ pub record CallsOnIds : Type 0 where
   pub no-new-privs-stays : (c : Credentials) (x : Step) → OnGroupIds x → result c x .after .nnp ≡ c .nnp
   -- calls 15 to 18 change no group ID
   pub group-ids-stay : (c : Credentials) (x : Step) → OnUserIds x → result c x .after .gids ≡ c .gids
-  -- calls 19 to 22 answer what 15 to 18 answer for a counterpart: its code
+  -- calls 19 to 22 answer what 15 to 18 answer for a counterpart: its code,
   pub same-code : (c d : Credentials) → Counterpart c d → (x : Step) → OnGroupIds x → result c x .code ≡ result d (userIdCall x) .code
-  -- and its value,
+  -- its value
   pub same-value : (c d : Credentials) → Counterpart c d → (x : Step) → OnGroupIds x → result c x .value ≡ result d (userIdCall x) .value
+  -- and its cause,
+  pub same-cause : (c d : Credentials) → Counterpart c d → (x : Step) → OnGroupIds x → result c x .cause ≡ result d (userIdCall x) .cause
   -- and leave in the group IDs what those leave in the counterpart's user IDs
   pub same-ids : (c d : Credentials) → Counterpart c d → (x : Step) → OnGroupIds x → result c x .after .gids ≡ result d (userIdCall x) .after .uids
   -- there is a counterpart of every credentials

@@ -8,6 +8,7 @@ use Rattle.credentials.specs.declared.Credentials.{Credentials}
 use Rattle.rules.specs.Fields.{withSets}
 use Rattle.rules.specs.declared.Answer.{Answer}
 use Rattle.rules.specs.declared.Answer.the-variants.{Done, NotPermitted}
+use Rattle.rules.specs.declared.Cause.the-variants.{InheritableBeyondPermitted, InheritableBeyondBounding, PermittedGrows, EffectiveBeyondPermitted}
 
 -- first test: without SETPCAP, the new I goes beyond I and P together
 abbrev pub beyondPermitted : Sets → ℕ → Bool
@@ -32,8 +33,8 @@ capsetSets s p i e = record { permitted = p; inheritable = i; effective = e; bou
 -- call 2
 unfoldable pub capset : Credentials → ℕ → ℕ → ℕ → Answer
 capset c p i e =
-    cond (beyondPermitted (c .sets) i) NotPermitted
-    (cond (beyondBounding (c .sets) i) NotPermitted
-    (cond (permittedGrows (c .sets) p) NotPermitted
-    (cond (effectiveExceeds p e) NotPermitted
+    cond (beyondPermitted (c .sets) i) (NotPermitted InheritableBeyondPermitted)
+    (cond (beyondBounding (c .sets) i) (NotPermitted InheritableBeyondBounding)
+    (cond (permittedGrows (c .sets) p) (NotPermitted PermittedGrows)
+    (cond (effectiveExceeds p e) (NotPermitted EffectiveBeyondPermitted)
     (Done 0 (withSets c (capsetSets (c .sets) p i e))))))

@@ -47,12 +47,12 @@ launch flags attribute = record { number = 1; a = 0; b = flags; c = 0; attribute
 abbrev plain : Step
 plain = launch 0 []
 
--- what comes back where the call is done, and where it is refused
+-- what comes back where the call is done, and where the rules refuse it with a cause ("Why it was refused")
 abbrev done : ℕ → Credentials → Result
-done value after = record { code = 0; value = value; after = after }
+done value after = record { code = 0; value = value; cause = 0; after = after }
 
 abbrev refused : ℕ → Credentials → Result
-refused code start = record { code = code; value = 0; after = start }
+refused cause start = record { code = 1; value = 0; cause = cause; after = start }
 
 -- B without SYS_RAWIO
 abbrev without17 : ℕ
@@ -98,11 +98,11 @@ table =
       step = launch 0 (version2Bytes 0 (single 17) false);
       expected = done 0 (withSets usual (sets (single 17) (single 17) 0 without17 0));
     } ∷
-    -- 5: B lacks 17, I empty, file permitted {17}: bit on, 1
+    -- 5: B lacks 17, I empty, file permitted {17}: bit on, 1, and the cause is 11
     record {
       start = withSets usual (sets 0 0 0 without17 0);
       step = launch 0 (version2Bytes (single 17) 0 true);
-      expected = refused 1 (withSets usual (sets 0 0 0 without17 0));
+      expected = refused 11 (withSets usual (sets 0 0 0 without17 0));
     } ∷
     -- 5: bit off, done, P empty
     record {

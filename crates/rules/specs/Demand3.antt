@@ -53,7 +53,7 @@ pub record GoesOn (start : Credentials) (before rest : List Step) : Type 0 where
 pub record Demand3 (start : Credentials) (steps : List Step) : Type 0 where
   -- there is one result for each call
   pub one-each : length (run start steps) ≡ length steps
-  -- each call's code, value and credentials are the rules' from the state that the calls before it left, the first's from the start; and
+  -- each call's code, value, cause and credentials are the rules' from the state that the calls before it left, the first's from the start; and
   -- what it leaves is what the rest goes on from: nothing else changes the credentials
   pub by-the-rules : (before : List Step) (x : Step) (rest : List Step) → steps ≡ before ++ x ∷ rest
       → run start steps ≡ run start before ++ result (left start before) x ∷ run (result (left start before) x .after) rest

@@ -13,6 +13,7 @@ use Rattle.credentials.specs.declared.Credentials.{Credentials}
 use Rattle.rules.specs.Fields.{isSet, withAmbient, withEffective, withFilesystem, withGids, withPermitted, withSets, withUids}
 use Rattle.rules.specs.declared.Answer.{Answer}
 use Rattle.rules.specs.declared.Answer.the-variants.{Done, NotPermitted}
+use Rattle.rules.specs.declared.Cause.the-variants.{IdNotAllowed}
 use Rattle.rules.specs.declared.NewIds.{NewIds}
 use Rattle.rules.specs.declared.NewIds.the-variants.{Allowed, NotAllowed}
 
@@ -153,7 +154,7 @@ maySetAnyUserId c = has (c .sets .effective) CAP-SETUID
 -- calls 15 to 17: the new user IDs, and the sets by rules 1 to 3; or refused
 abbrev pub userIdsChanged : Credentials → NewIds → Answer
 userIdsChanged c (Allowed new) = Done 0 (withSets (withUids c new) (setsAfter (c .uids) new (c .securebits) (c .sets)))
-userIdsChanged c NotAllowed = NotPermitted
+userIdsChanged c NotAllowed = NotPermitted IdNotAllowed
 
 -- call 15
 unfoldable pub setuid : Credentials → ℕ → Answer
@@ -185,7 +186,7 @@ maySetAnyGroupId c = has (c .sets .effective) CAP-SETGID
 -- calls 19 to 21: the new group IDs, or refused
 abbrev pub groupIdsChanged : Credentials → NewIds → Answer
 groupIdsChanged c (Allowed new) = Done 0 (withGids c new)
-groupIdsChanged c NotAllowed = NotPermitted
+groupIdsChanged c NotAllowed = NotPermitted IdNotAllowed
 
 -- call 19
 unfoldable pub setgid : Credentials → ℕ → Answer

@@ -15,6 +15,7 @@ use Rattle.credentials.specs.declared.Credentials.{Credentials}
 use Rattle.rules.specs.Fields.{isSet, withGids, withUids, withSets, withSecurebits}
 use Rattle.rules.specs.declared.Answer.{Answer}
 use Rattle.rules.specs.declared.Answer.the-variants.{Done, NotPermitted, UnreadableAttribute}
+use Rattle.rules.specs.declared.Cause.the-variants.{LaunchFallsShort}
 
 -- call 1's flags: the file's mode bits, and how it is mounted, run and booted
 abbrev pub SET-USER-ID : ℕ
@@ -152,7 +153,7 @@ launched c owner flags group f =
 
 -- the launch of a file that was read: 60 where it could not be, then 1 by f
 abbrev pub launchOf : Credentials → ℕ → ℕ → ℕ → Reading → Answer
-launchOf c owner flags group (File f) = cond (fallsShort (c .sets) f) NotPermitted (Done 0 (launched c owner flags group f))
+launchOf c owner flags group (File f) = cond (fallsShort (c .sets) f) (NotPermitted LaunchFallsShort) (Done 0 (launched c owner flags group f))
 launchOf c owner flags group Unreadable = UnreadableAttribute
 
 -- call 1

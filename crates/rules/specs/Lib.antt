@@ -14,3 +14,4 @@ pub mod Cases
 pub mod Demand3
 pub mod CallsOnIds
 pub mod AmbientAfterLaunch
+pub mod WhyRefused

@@ -2,7 +2,7 @@
 use Prim.Native.Nat.{ℕ}
 use mathlib.Core.List.{List, [], _∷_}
 use Rattle.credentials.specs.declared.Credentials.{Credentials}
-use Rattle.rules.specs.Answers.{code, value, after}
+use Rattle.rules.specs.Answers.{code, value, cause, after}
 use Rattle.rules.specs.Call.{answer}
 
 -- one call of a list: its number, which may be no call's, its operands and its attribute bytes
@@ -13,17 +13,18 @@ pub record Step : Type 0 where
   pub c : ℕ
   pub attribute : List ℕ
 
--- what comes back from one call: code, value and credentials
+-- what comes back from one call: code, value, cause and credentials
 pub record Result : Type 0 where
   pub code : ℕ
   pub value : ℕ
+  pub cause : ℕ
   pub after : Credentials
 
 -- the result of a call on given credentials
 unfoldable pub result : Credentials → Step → Result
 result start x =
     let r = answer start (x .number) (x .a) (x .b) (x .c) (x .attribute) in
-    record { code = code r; value = value r; after = after start r }
+    record { code = code r; value = value r; cause = cause r; after = after start r }
 
 -- the results of a list of calls, each on the credentials that the last one left
 unfoldable pub run : Credentials → List Step → List Result

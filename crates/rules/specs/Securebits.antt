@@ -9,6 +9,7 @@ use Rattle.credentials.specs.declared.Credentials.{Credentials}
 use Rattle.rules.specs.Fields.{withSecurebits}
 use Rattle.rules.specs.declared.Answer.{Answer}
 use Rattle.rules.specs.declared.Answer.the-variants.{Done, NotPermitted}
+use Rattle.rules.specs.declared.Cause.the-variants.{CapabilityNotEffective, LockUndone, LockedFlagChanged}
 
 -- all four flags, and their locks
 abbrev allFlags : ℕ
@@ -35,9 +36,9 @@ changesLocked old new = not (eqb (inter old (lockedFlags old)) (inter new (locke
 -- call 9, set: needs SETPCAP, every set lock kept and each locked flag unchanged
 unfoldable pub setSecurebits : Credentials → ℕ → Answer
 setSecurebits c new =
-    cond (lacks (c .sets .effective) CAP-SETPCAP) NotPermitted
-    (cond (undoesLock (c .securebits) new) NotPermitted
-    (cond (changesLocked (c .securebits) new) NotPermitted
+    cond (lacks (c .sets .effective) CAP-SETPCAP) (NotPermitted CapabilityNotEffective)
+    (cond (undoesLock (c .securebits) new) (NotPermitted LockUndone)
+    (cond (changesLocked (c .securebits) new) (NotPermitted LockedFlagChanged)
     (Done 0 (withSecurebits c new))))
 
 -- call 10, get: all the bits

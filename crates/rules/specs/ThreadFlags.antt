@@ -8,6 +8,7 @@ use Rattle.credentials.specs.declared.Credentials.{Credentials}
 use Rattle.rules.specs.Fields.{isSet, number, withNnp, withSecurebits}
 use Rattle.rules.specs.declared.Answer.{Answer}
 use Rattle.rules.specs.declared.Answer.the-variants.{Done, NotPermitted}
+use Rattle.rules.specs.declared.Cause.the-variants.{LockedFlagChanged}
 
 -- call 11's test: the lock of KEEP_CAPS is set
 abbrev pub keepCapsLocked : ℕ → Bool
@@ -20,7 +21,7 @@ withKeepCaps securebits on = cond on (union securebits SECBIT-KEEP-CAPS) (minus 
 -- call 11, set keep-caps: refused where it is locked; needs no capability
 unfoldable pub setKeepCaps : Credentials → Bool → Answer
 setKeepCaps c on =
-    cond (keepCapsLocked (c .securebits)) NotPermitted
+    cond (keepCapsLocked (c .securebits)) (NotPermitted LockedFlagChanged)
     (Done 0 (withSecurebits c (withKeepCaps (c .securebits) on)))
 
 -- call 12, get keep-caps

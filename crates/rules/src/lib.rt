@@ -4,15 +4,41 @@
 use credentials::Credentials;
 use credentials::Ids;
 
-// What a call answers: done, with its value and the credentials after it, or refused: by the rules (1), because number, operands and attribute
-// make no call (22), because the attribute cannot be read (60), or because the credentials given are not valid (72). A refusal leaves them
-// as they were. specs/Answers.antt gives the number, value and state of each.
+// What a call answers: done, with its value and the credentials after it, or refused: by the rules, with a cause (1), because number, operands and
+// attribute make no call (22), because the attribute cannot be read (60), or because the credentials given are not valid (72). A refusal leaves
+// them as they were. specs/Answers.antt gives the number, value, cause and state of each.
 pub enum Answer {
     Done { value: u64, after: Credentials },
-    NotPermitted,
+    NotPermitted(Cause),
     InvalidArgument,
     UnreadableAttribute,
     InvalidCredentials,
+}
+
+// Why the rules refuse a call, in the order of the numbers 1 to 11 that specs/Answers.antt gives.
+pub enum Cause {
+    // A capability that the call needs is not effective.
+    CapabilityNotEffective,
+    // capset, without SETPCAP: the new inheritable set goes beyond the inheritable and the permitted one together.
+    InheritableBeyondPermitted,
+    // capset: the new inheritable set goes beyond the inheritable and the bounding one together.
+    InheritableBeyondBounding,
+    // capset: the new permitted set goes beyond the permitted one.
+    PermittedGrows,
+    // capset: the new effective set goes beyond the new permitted one.
+    EffectiveBeyondPermitted,
+    // Ambient raise: the capability is not in both the permitted and the inheritable set.
+    NotInPermittedAndInheritable,
+    // Ambient raise: NO_CAP_AMBIENT_RAISE is set.
+    AmbientRaiseForbidden,
+    // A lock that is set is missing from the new securebits.
+    LockUndone,
+    // A flag of the securebits that is locked would be changed.
+    LockedFlagChanged,
+    // An ID is not among those that the thread may take.
+    IdNotAllowed,
+    // A launch does not give the whole of the file's permitted set, and the file's effective bit is on.
+    LaunchFallsShort,
 }
 
 // A call by its name, with the operands that it uses, in the order of the numbers 1 to 22.
