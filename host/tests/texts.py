@@ -6,6 +6,8 @@
 Each case is a name, a text, what the program has to write, and why. Nothing is computed from a rule: lines, codes, values and
 sheets were worked out by hand from the paper and typed in beside their reason; the functions below only join and repeat text.
 
+Causes are those of "Why it was refused": a refusal 1 has its cause typed in, every other answer has cause 0.
+
 Line numbers: the sheet is lines 1 to 15; step k is lines 5k+11 to 5k+15 (step 1 is 16 to 20, step 256 is 1291 to 1295). A line is
 complete only with its newline, and a fault's line is one more than the complete correct lines before it.
 """
@@ -53,8 +55,13 @@ def n70(line):
 N72 = "code=72\nline=0\n"
 
 
-def rep(pairs, end):
-    return "".join(f"code={c}\nvalue={v:016x}\n" for c, v in pairs) + end
+def result(code, value, cause=0):
+    assert (code == 1) == (cause != 0), (code, value, cause)
+    return f"code={code}\nvalue={value:016x}\ncause={cause}\n"
+
+
+def rep(results, end):
+    return "".join(result(*r) for r in results) + end
 
 
 SHEET = S()
@@ -372,9 +379,9 @@ add("attr-unreadable-file-group", SHEET + step(1, c="0000000000000001", attr="ff
 
 # ---- Call numbers
 add("call-0", SHEET + step(0), rep([(22, 0)], SHEET), "readable; unknown call: 22")
-add("call-19", SHEET + step(19), rep([(1, 0)], SHEET), "setgid 0 without SETGID; 0 is neither real nor saved group: 1")
-add("call-20", SHEET + step(20), rep([(1, 0)], SHEET), "setregid 0, 0 without SETGID; 0 is none of the groups: 1")
-add("call-21", SHEET + step(21), rep([(1, 0)], SHEET), "setresgid 0, 0, 0 without SETGID; 0 is none of the groups: 1")
+add("call-19", SHEET + step(19), rep([(1, 0, 10)], SHEET), "setgid 0 without SETGID; 0 is neither real nor saved group: 1, cause 10")
+add("call-20", SHEET + step(20), rep([(1, 0, 10)], SHEET), "setregid 0, 0 without SETGID; 0 is none of the groups: 1, cause 10")
+add("call-21", SHEET + step(21), rep([(1, 0, 10)], SHEET), "setresgid 0, 0, 0 without SETGID; 0 is none of the groups: 1, cause 10")
 add("call-22", SHEET + step(22), rep([(0, 1000)], SHEET), "setfsgid 0 answers 0 and the old group 1000, and changes nothing")
 add("call-23", SHEET + step(23), rep([(22, 0)], SHEET), "the first number past the last call; unknown call: 22")
 add("call-99", SHEET + step(99), rep([(22, 0)], SHEET), "the greatest readable; unknown call: 22")
@@ -414,7 +421,8 @@ add("read-2-to-32-plus-17", SHEET + step(4, a="0000000100000011"), rep([(22, 0)]
 add("setfsuid-asks", S(fsuid="4294967294") + step(18, a="00000000ffffffff"),
     rep([(0, 4294967294)], S(fsuid="4294967294")), "setfsuid only asks: value 00000000fffffffe")
 add("refused-goes-on", SHEET + step(3, a="0000000000000011") + step(99) + step(1, attr="00") + step(4, a="0000000000000011"),
-    rep([(1, 0), (22, 0), (60, 0), (0, 1)], SHEET), "a refused step does not stop the plan: 1, 22, 60, then done")
+    rep([(1, 0, 1), (22, 0), (60, 0), (0, 1)], SHEET),
+    "a refused step does not stop the plan: 1 for want of SETPCAP (cause 1), 22, 60, then done")
 RAW = "0000000000002000"
 add("second-call-from-the-first",
     S(permitted=RAW, inheritable=RAW, effective=RAW, ambient=RAW) + step(8) + step(7, a="000000000000000d"),
@@ -428,9 +436,9 @@ add("groups-without-setgid",
     GROUPS + step(22, a="0000000000000014") + step(20, a="0000000000000014", b="000000000000000a")
     + step(21, a=LEAVE, b="0000000000000014", c=LEAVE) + step(19, a="000000000000000a") + step(19, a="000000000000001e")
     + step(22, a="000000000000001e") + step(22, a=LEAVE),
-    rep([(0, 40), (0, 0), (0, 0), (0, 0), (1, 0), (0, 10), (0, 10)], S(rgid="20", egid="10", sgid="10", fsgid="10")),
+    rep([(0, 40), (0, 0), (0, 0), (0, 0), (1, 0, 10), (0, 10), (0, 10)], S(rgid="20", egid="10", sgid="10", fsgid="10")),
     "20 is the effective: 10/20/30/20, value 40; swapped, real given, so saved follows: 20/10/10/10; effective to the real: "
-    "20/20/10/20; setgid to the saved: 20/10/10/10; 30 is neither real nor saved: 1; setfsgid 30 changes nothing, value 10; asks, value 10")
+    "20/20/10/20; setgid to the saved: 20/10/10/10; 30 is neither real nor saved: 1, cause 10; setfsgid 30 changes nothing, value 10; asks, value 10")
 SETGID = dict(permitted="0000000000000040", effective="0000000000000040")
 add("groups-with-setgid",
     S(**SETGID) + step(19) + step(20, a="0000000000000032", b=LEAVE)
@@ -439,8 +447,8 @@ add("groups-with-setgid",
     "setgid 0: all four 0; setregid real 50: saved and filesystem become the effective 0; setresgid: 50/60/70/60; "
     "setfsgid 4294967294, value 60; P and E stay")
 add("groups-with-setuid-only", S(permitted="0000000000000080", effective="0000000000000080") + step(19) + step(22),
-    rep([(1, 0), (0, 1000)], S(permitted="0000000000000080", effective="0000000000000080")),
-    "SETUID is not SETGID: 1, and a setfsgid that changes nothing")
+    rep([(1, 0, 10), (0, 1000)], S(permitted="0000000000000080", effective="0000000000000080")),
+    "SETUID is not SETGID: 1, cause 10, and a setfsgid that changes nothing")
 add("groups-from-0-by-root",
     S(ruid="0", euid="0", suid="0", fsuid="0", rgid="0", egid="0", sgid="0", fsgid="0",
       permitted="000001ffffffffff", effective="000001ffffffffff") + step(19, a="00000000000003e8"),
@@ -500,6 +508,41 @@ add("launch-file-group-wide", GROUPS + step(1, c="0000000100000007"), rep([(22, 
 add("launch-refused-groups-stay", GROUPS + step(1, b="0000000000000002", c="0000000000000007", attr="00"), rep([(60, 0)], GROUPS),
     "1 byte is no attribute: 60, and the groups stay")
 
+# ---- Causes: 13 is d and {13} 2000, 17 is 11 and {17} 20000 in hex; 1000 is the only ID
+RAWIO = "0000000000020000"
+NO17 = "000001fffffdffff"
+SHORT = "0100000200000200000000000000000000000000"
+add("causes-nothing-held",
+    SHEET + step(3, a="0000000000000011") + step(9) + step(2, b=RAW) + step(2, a=RAW) + step(2, c=RAW) + step(2, RAW, RAW, RAW)
+    + step(5, a="000000000000000d") + step(15) + step(16) + step(17) + step(18),
+    rep([(1, 0, 1), (1, 0, 1), (1, 0, 2), (1, 0, 4), (1, 0, 5), (1, 0, 2), (1, 0, 6), (1, 0, 10), (1, 0, 10), (1, 0, 10), (0, 1000)], SHEET),
+    "no SETPCAP in calls 3 and 9: 1; capset: 13 new in I, in B alone: 2; new in P: 4; new in E alone: 5; in all three, tests 1 and 3 fail: 2; "
+    "13 neither in P nor in I: 6; 0 is no ID of the thread: 10 in 15, 16 and 17, while 18 is done, value 1000")
+add("causes-bounding-lacks-17",
+    S(permitted=RAWIO, bounding=NO17) + step(2, RAWIO, RAWIO) + step(2, Z, RAWIO, RAWIO) + step(1, attr=SHORT),
+    rep([(1, 0, 3), (1, 0, 3), (1, 0, 11)], S(permitted=RAWIO, bounding=NO17)),
+    "17 is in P, so test 1 passes, but not in I or B: 3; E not within the empty new P as well: still 3; rule f: 11")
+SEALED = dict(permitted="0000000000000100", effective="0000000000000100", securebits="03")
+add("causes-securebits",
+    S(**SEALED) + step(9, a="0000000000000001") + step(9, a="0000000000000002") + step(9) + step(9, a="0000000000000023")
+    + step(11) + step(11, a="0000000000000001"),
+    rep([(1, 0, 8), (1, 0, 9), (1, 0, 8), (0, 0), (1, 0, 9), (1, 0, 9)], S(**dict(SEALED, securebits="23"))),
+    "has SETPCAP; lock 2 undone: 8; NOROOT, locked, cleared: 9; both: 8; lock 20 added: done; then KEEP_CAPS is locked: 9, to clear and to set it")
+add("causes-securebits-no-setpcap",
+    S(securebits="03") + step(9, a="0000000000000001") + step(9, a="0000000000000002") + step(9) + step(9, a="0000000000000003"),
+    rep([(1, 0, 1), (1, 0, 1), (1, 0, 1), (1, 0, 1)], S(securebits="03")),
+    "the same without SETPCAP, and the value that stands already: 1 before 8 and 9")
+add("causes-ambient", S(permitted=RAW, inheritable=RAW, securebits="40") + step(5, a="000000000000000d") + step(5, a="000000000000000a"),
+    rep([(1, 0, 7), (1, 0, 6)], S(permitted=RAW, inheritable=RAW, securebits="40")),
+    "13 is in P and I, the flag forbids it: 7; 10 is in neither, and the flag forbids it too: 6")
+add("cause-0-of-22-and-60",
+    S(securebits="20", bounding=NO17) + step(11, a="0000000000000002") + step(3, a="0000000000000029")
+    + step(1, attr="0100000300000200000000000000000000000000"),
+    rep([(22, 0), (22, 0), (60, 0)], S(securebits="20", bounding=NO17)),
+    "the lock, the missing SETPCAP and rule f would refuse these as well, but 22 and 60 come first: cause 0")
+add("cause-line-after-sheet", SHEET + "cause=0\n", n70(16), "a report's line is no step: 15 + 1")
+add("cause-line-after-step", SHEET + step() + "cause=0\n", n70(21), "a report's line is no step: 20 + 1")
+
 # ---- Many steps
 ROOTKW = dict(ruid="0", euid="0", suid="0", fsuid="0", permitted="000001ffffffffff", effective="000001ffffffffff")
 ROOT = S(**ROOTKW)
@@ -537,9 +580,14 @@ LKW = dict(IDS10, permitted=FULL, inheritable=FULL, effective=FULL, bounding=FUL
 LONGSTEPS = "".join(step(10 + i % 90, "f" * 16, "f" * 16, "f" * 16, "f" * 48) for i in range(256))
 LONGEST = S(**LKW) + LONGSTEPS
 assert len(LONGEST) == 30748
-assert len(rep([(22, 0)] * 256, S(**LKW))) == 8220
+assert len(rep([(22, 0)] * 256, S(**LKW))) == 10268
 add("longest", LONGEST, rep([(22, 0)] * 256, S(**LKW)),
-    "30,748 bytes: calls 10 to 99 with an attribute and all-ones operands, every one 22; nothing changes; the report has 8,220 bytes")
+    "30,748 bytes: calls 10 to 99 with an attribute and all-ones operands, every one 22; nothing changes; the report has 10,268 bytes")
+POOR = dict(LKW, effective=Z)
+assert len(rep([(1, 0, 10)] * 256, S(**POOR))) == 10268
+add("longest-report-cause-10", S(**POOR) + step(15) * 256, rep([(1, 0, 10)] * 256, S(**POOR)),
+    "setuid 0 without SETUID, 0 is neither real nor saved: 1, cause 10, 256 times; `code=1` is a byte shorter than `code=22`, `cause=10` a byte "
+    "longer than `cause=0`: again 10,268 bytes")
 add("longest-plus-newline", LONGEST + "\n", n70(1296), "30,749 bytes: 1295 + 1")
 add("longest-plus-c", LONGEST + "c", n70(1296), "the start of a 257th step: 1295 + 1")
 add("longest-no-last-newline", LONGEST[:-1], n70(1295), "30,747 bytes, last line not complete: 1294 + 1")

@@ -37,6 +37,6 @@ fn run(text: &mut [u8], report: &mut [u8])
 
 fn main() {
     let mut text = [0u8; 30749];
-    let mut report = [0u8; 8220];
+    let mut report = [0u8; 10268];
     run(&mut text, &mut report);
 }

@@ -108,6 +108,7 @@ pub(crate) fn show_call(row: &[u8]) {
     );
     output::decimal(b"code=", codes::wide(answers::code(answer)));
     output::hex(b" value=", answers::value(answer), 1);
+    output::decimal(b" cause=", codes::wide(answers::cause(answer)));
     show_credentials(answers::after(start.given, answer));
     output::text(b"\n");
 }

@@ -14,16 +14,22 @@ pub struct Answer {
     pub code: u32,
     /// What a done call reads; 0 for the others and for a refusal.
     pub value: u64,
+    /// Where the code is 1, what is wrong; else 0. The causes are 1 a needed capability is not effective; 2 to 5 one of
+    /// the four tests of capset fails; 6 a capability is not in both the permitted and the inheritable set; 7 a flag
+    /// forbids the ambient raise; 8 a lock is undone; 9 a locked flag is changed; 10 an ID is not among those allowed;
+    /// 11 a launch falls short of the file's permitted set.
+    pub cause: u32,
     /// The credentials after the call; after a refusal, those before it.
     pub after: Credentials,
 }
 
 /// Performs one call on any credentials. Refusals are looked for in the order 72 (credentials not valid), 22 (no such
-/// call, or an operand out of range), 60 (attribute unreadable), 1 (not permitted).
+/// call, or an operand out of range), 60 (attribute unreadable), 1 (not permitted). Of several causes of refusal 1 the
+/// lowest number is answered.
 pub fn perform(before: &Credentials, step: &Step) -> Answer {
     match attempt(before, step) {
         Ok(answer) => answer,
-        Err(refusal) => Answer { code: refusal.code(), value: 0, after: before.clone() },
+        Err(refusal) => Answer { code: refusal.code(), value: 0, cause: refusal.cause(), after: before.clone() },
     }
 }
 
@@ -33,7 +39,7 @@ fn attempt(before: &Credentials, step: &Step) -> Result<Answer, Refusal> {
     }
     let call = decode(step)?;
     let after = credentials_after(before, &call)?;
-    Ok(Answer { code: 0, value: value_read(before, &call), after })
+    Ok(Answer { code: 0, value: value_read(before, &call), cause: 0, after })
 }
 
 fn credentials_after(before: &Credentials, call: &Call) -> Result<Credentials, Refusal> {

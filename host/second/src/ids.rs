@@ -1,8 +1,10 @@
 //! The rules of the ID calls, which are the same for user IDs and for group IDs; what becomes of capability sets is no
 //! part of them.
 //!
-//! A thread is `able` if it has the capability for IDs of the kind at hand: CAP_SETUID or CAP_SETGID.
+//! A thread is `able` if it has the capability for IDs of the kind at hand: CAP_SETUID or CAP_SETGID. Where it is not,
+//! the cause of a refusal is the ID given, never the capability.
 
+use crate::cause::Cause;
 use crate::refusal::Refusal;
 
 /// A thread's four IDs of one kind, user or group.
@@ -21,7 +23,7 @@ pub(crate) fn setid(before: Ids, able: bool, id: u32) -> Result<Ids, Refusal> {
         after.real = id;
         after.saved = id;
     } else if id != before.real && id != before.saved {
-        return Err(Refusal::NotPermitted);
+        return Err(Refusal::NotPermitted(Cause::IdNotAllowed));
     }
     after.effective = id;
     after.filesystem = id;
@@ -77,6 +79,6 @@ fn check_each(able: bool, given: &[Option<u32>], allowed: &[u32]) -> Result<(), 
     if able || given.iter().flatten().all(|id| allowed.contains(id)) {
         Ok(())
     } else {
-        Err(Refusal::NotPermitted)
+        Err(Refusal::NotPermitted(Cause::IdNotAllowed))
     }
 }

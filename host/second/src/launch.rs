@@ -2,6 +2,7 @@
 
 use crate::attribute::{self, FileCapabilities};
 use crate::capability::{is_within, FULL_SET};
+use crate::cause::Cause;
 use crate::credentials::Credentials;
 use crate::ids::Ids;
 use crate::refusal::Refusal;
@@ -71,7 +72,7 @@ fn check_all_obtained(before: &Credentials, attribute: Option<FileCapabilities>)
     let Some(own) = attribute else { return Ok(()) };
     let obtained = (before.inheritable & own.inheritable) | (own.permitted & before.bounding);
     if own.effective && !is_within(own.permitted, obtained) {
-        return Err(Refusal::NotPermitted);
+        return Err(Refusal::NotPermitted(Cause::FilePermittedNotObtained));
     }
     Ok(())
 }

@@ -1,15 +1,16 @@
 //! A plain model of one Linux thread's credentials: its user IDs, its group IDs, its five capability sets, its
 //! securebits and its no-new-privs flag, and what twenty-two system calls do to them.
 //!
-//! [`perform`] answers one call; [`run_plan`] reads a plan as text, runs its steps in order and writes a report.
-//! [`read_sheet`] and [`write_sheet`] turn credentials alone from text into numbers and back, [`read_attribute`] and
-//! [`write_attribute`] the capability attribute of a file from bytes, [`read_names`] and [`write_names`] three
-//! capability sets from a text in names.
+//! [`perform`] answers one call, with the cause where its rules do not allow it; [`run_plan`] reads a plan as text,
+//! runs its steps in order and writes a report. [`read_sheet`] and [`write_sheet`] turn credentials alone from text
+//! into numbers and back, [`read_attribute`] and [`write_attribute`] the capability attribute of a file from bytes,
+//! [`read_names`] and [`write_names`] three capability sets from a text in names.
 
 mod attribute;
 mod buffer;
 mod calls;
 mod capability;
+mod cause;
 mod credentials;
 mod decode;
 mod group_ids;

@@ -1,5 +1,7 @@
 //! Why a call, a reader or a writer is refused.
 
+use crate::cause::Cause;
+
 /// The refusals. Those of a call stand in the order in which they are looked for; the last three are not for calls.
 #[derive(Clone, Copy, Debug, PartialEq, Eq)]
 pub(crate) enum Refusal {
@@ -9,8 +11,8 @@ pub(crate) enum Refusal {
     BadOperand,
     /// The file's capability attribute counts but cannot be read.
     UnreadableAttribute,
-    /// The rules of the call do not allow it (EPERM).
-    NotPermitted,
+    /// The rules of the call do not allow it (EPERM), and this is the cause.
+    NotPermitted(Cause),
     /// The text of a sheet is malformed.
     Malformed {
         /// One more than the complete correct lines before the fault.
@@ -32,9 +34,17 @@ impl Refusal {
             Refusal::InvalidCredentials => 72,
             Refusal::BadOperand => 22,
             Refusal::UnreadableAttribute => 60,
-            Refusal::NotPermitted => 1,
+            Refusal::NotPermitted(_) => 1,
             Refusal::Malformed { .. } | Refusal::MalformedAt { .. } => 70,
             Refusal::NoRoom => 28,
+        }
+    }
+
+    /// The number of the cause; 0 for a refusal that has none.
+    pub(crate) fn cause(self) -> u32 {
+        match self {
+            Refusal::NotPermitted(cause) => cause.number(),
+            _ => 0,
         }
     }
 }

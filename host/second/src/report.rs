@@ -1,14 +1,15 @@
-//! Writes a report: two lines for each step, then the sheet.
+//! Writes a report: three lines for each step, then the sheet.
 
 use std::fmt::{self, Write};
 
 use crate::calls::Answer;
 use crate::credentials::Credentials;
 
-/// Adds a step's code and value.
+/// Adds a step's code, value and cause.
 pub(crate) fn write_answer(report: &mut String, answer: &Answer) -> fmt::Result {
     writeln!(report, "code={}", answer.code)?;
-    writeln!(report, "value={:016x}", answer.value)
+    writeln!(report, "value={:016x}", answer.value)?;
+    writeln!(report, "cause={}", answer.cause)
 }
 
 /// Adds the fifteen lines of a sheet.

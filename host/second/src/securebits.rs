@@ -1,6 +1,7 @@
 //! Securebits by their names in linux/securebits.h, and the two calls that change them.
 
 use crate::capability::CAP_SETPCAP;
+use crate::cause::Cause;
 use crate::credentials::Credentials;
 use crate::refusal::Refusal;
 
@@ -18,8 +19,14 @@ pub(crate) fn set_securebits(before: &Credentials, securebits: u8) -> Result<Cre
     let locks = before.securebits & SECURE_ALL_LOCKS;
     let locked_flags = locks >> 1;
     let changed = before.securebits ^ securebits;
-    if !before.has(CAP_SETPCAP) || changed & (locks | locked_flags) != 0 {
-        return Err(Refusal::NotPermitted);
+    if !before.has(CAP_SETPCAP) {
+        return Err(Refusal::NotPermitted(Cause::CapabilityNotEffective));
+    }
+    if changed & locks != 0 {
+        return Err(Refusal::NotPermitted(Cause::LockUndone));
+    }
+    if changed & locked_flags != 0 {
+        return Err(Refusal::NotPermitted(Cause::LockedFlagChanged));
     }
     Ok(Credentials { securebits, ..before.clone() })
 }
@@ -27,7 +34,7 @@ pub(crate) fn set_securebits(before: &Credentials, securebits: u8) -> Result<Cre
 /// Call 11: takes no capability, but the flag's lock stops it, even where nothing would change.
 pub(crate) fn set_keep_caps(before: &Credentials, keep: bool) -> Result<Credentials, Refusal> {
     if before.securebits & SECBIT_KEEP_CAPS_LOCKED != 0 {
-        return Err(Refusal::NotPermitted);
+        return Err(Refusal::NotPermitted(Cause::LockedFlagChanged));
     }
     let mut after = before.clone();
     if keep {

@@ -45,7 +45,7 @@ fn case_4() {
 #[test]
 fn case_5() {
     let before = Credentials { bounding: FULL & !SYS_RAWIO, ..user() };
-    assert_refused(&before, &execve(0, 0, attribute(SYS_RAWIO, 0, true)), 1);
+    assert_not_permitted(&before, &execve(0, 0, attribute(SYS_RAWIO, 0, true)), 11);
     assert_eq!(after(&before, &execve(0, 0, attribute(SYS_RAWIO, 0, false))), before);
 }
 
@@ -126,6 +126,7 @@ fn the_whole_reports_of_case_2_but_set_user_id() {
     let expected = "\
 code=0
 value=0000000000000000
+cause=0
 ruid=1000
 euid=1001
 suid=1001
@@ -207,20 +208,28 @@ attr=
     let expected = "\
 code=22
 value=0000000000000000
+cause=0
 code=1
 value=0000000000000000
+cause=1
 code=60
 value=0000000000000000
+cause=0
 code=0
 value=0000000000000001
+cause=0
 code=0
 value=0000000000000000
+cause=0
 code=0
 value=0000000000000000
+cause=0
 code=0
 value=00000000000003e8
+cause=0
 code=0
 value=0000000000000000
+cause=0
 ruid=1000
 euid=1000
 suid=1000

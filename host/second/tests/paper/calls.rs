@@ -1,7 +1,7 @@
 //! Capset, the bounding and ambient calls, securebits, keep-caps and no-new-privs.
 
 use crate::helpers::*;
-use second::{perform, Credentials};
+use second::Credentials;
 
 /// Numbers of four capabilities beside CAP_SETPCAP.
 const W: u64 = 1 << 20;
@@ -32,23 +32,24 @@ fn capset_sets_the_three_sets() {
 fn capset_limits_inheritable() {
     let p = W | X;
     // Z is in B alone: CAP_SETPCAP adds it.
-    assert_refused(&mixed(), &step(2, p, Z, W), 1);
+    assert_not_permitted(&mixed(), &step(2, p, Z, W), 2);
     assert_eq!(after(&with_setpcap(mixed()), &step(2, p, Z, W)).inheritable, Z);
     // With X out of I it is in P but not in B: nobody adds it.
     let before = Credentials { inheritable: Y, ..mixed() };
-    assert_refused(&before, &step(2, p, X | Y, W), 1);
-    assert_refused(&with_setpcap(before), &step(2, p, X | Y, W), 1);
+    assert_not_permitted(&before, &step(2, p, X | Y, W), 3);
+    assert_not_permitted(&with_setpcap(before), &step(2, p, X | Y, W), 3);
     // Y is in I and in neither P nor B: it may stay.
     assert_eq!(after(&mixed(), &step(2, p, Y, W)).inheritable, Y);
-    // In none of the three.
-    assert_refused(&with_setpcap(mixed()), &step(2, p, 1, W), 1);
+    // In none of the three: CAP_SETPCAP helps past the first test alone.
+    assert_not_permitted(&with_setpcap(mixed()), &step(2, p, 1, W), 3);
+    assert_not_permitted(&mixed(), &step(2, p, 1, W), 2);
 }
 
 #[test]
 fn capset_takes_the_old_permitted_set_and_the_new_one() {
-    assert_refused(&mixed(), &step(2, W | Z, 0, 0), 1);
-    assert_refused(&with_setpcap(mixed()), &step(2, W | Z, 0, 0), 1);
-    assert_refused(&mixed(), &step(2, W, 0, X), 1);
+    assert_not_permitted(&mixed(), &step(2, W | Z, 0, 0), 4);
+    assert_not_permitted(&with_setpcap(mixed()), &step(2, W | Z, 0, 0), 4);
+    assert_not_permitted(&mixed(), &step(2, W, 0, X), 5);
     // New I is measured against the old P: dropping W from P does not stop it from entering I.
     assert_eq!(after(&mixed(), &step(2, 0, W, 0)).inheritable, W);
 }
@@ -67,15 +68,15 @@ fn bounding_drop_needs_setpcap_and_leaves_the_other_sets() {
     assert_eq!(after(&before, &step(3, 21, 0, 0)), Credentials { bounding: FULL & !X, ..before.clone() });
     assert_eq!(after(&before, &step(3, 0, 0, 0)).bounding, FULL & !1);
     assert_eq!(after(&before, &step(3, 40, 0, 0)).bounding, FULL >> 1);
-    assert_refused(&mixed(), &step(3, 21, 0, 0), 1);
-    assert_refused(&root(), &step(3, 21, 0, 0), 1);
+    assert_not_permitted(&mixed(), &step(3, 21, 0, 0), 1);
+    assert_not_permitted(&root(), &step(3, 21, 0, 0), 1);
     let permitted_only = Credentials { permitted: SETPCAP, ..user() };
-    assert_refused(&permitted_only, &step(3, 21, 0, 0), 1);
+    assert_not_permitted(&permitted_only, &step(3, 21, 0, 0), 1);
 }
 
 #[test]
 fn bounding_drop_of_what_is_gone_still_needs_setpcap() {
-    assert_refused(&mixed(), &step(3, 0, 0, 0), 1);
+    assert_not_permitted(&mixed(), &step(3, 0, 0, 0), 1);
     let before = with_setpcap(mixed());
     assert_eq!(after(&before, &step(3, 0, 0, 0)), before);
 }
@@ -91,10 +92,10 @@ fn bounding_read_answers_the_bit() {
 #[test]
 fn ambient_raise_needs_permitted_inheritable_and_the_flag_clear() {
     assert_eq!(after(&mixed(), &step(5, 21, 0, 0)), Credentials { ambient: X, ..mixed() });
-    assert_refused(&mixed(), &step(5, 20, 0, 0), 1);
-    assert_refused(&mixed(), &step(5, 22, 0, 0), 1);
+    assert_not_permitted(&mixed(), &step(5, 20, 0, 0), 6);
+    assert_not_permitted(&mixed(), &step(5, 22, 0, 0), 6);
     let barred = Credentials { securebits: NO_CAP_AMBIENT_RAISE, ambient: X, ..mixed() };
-    assert_refused(&barred, &step(5, 21, 0, 0), 1);
+    assert_not_permitted(&barred, &step(5, 21, 0, 0), 7);
     let only_locked = Credentials { securebits: NO_CAP_AMBIENT_RAISE << 1, ..mixed() };
     assert_eq!(after(&only_locked, &step(5, 21, 0, 0)).ambient, X);
 }
@@ -109,13 +110,16 @@ fn ambient_lower_read_and_clear_need_nothing() {
     assert_eq!(after(&before, &step(8, 0, 0, 0)), Credentials { ambient: 0, ..before });
 }
 
-/// The paper's rule for call 9, flag by flag.
-fn securebits_allowed(old: u8, new: u8) -> bool {
-    [1u8, 4, 16, 64].iter().all(|&flag| {
-        let lock = 2 * flag;
-        let locked = old & lock != 0;
-        !locked || (new & lock != 0 && new & flag == old & flag)
-    })
+/// The paper's rule for call 9 with CAP_SETPCAP, flag by flag: the cause, or 0 where it is allowed.
+fn securebits_cause(old: u8, new: u8) -> u32 {
+    let locked = [1u8, 4, 16, 64].into_iter().filter(|flag| old & (2 * flag) != 0);
+    let lock_undone = locked.clone().any(|flag| new & (2 * flag) == 0);
+    let locked_flag_changed = locked.clone().any(|flag| new & flag != old & flag);
+    match (lock_undone, locked_flag_changed) {
+        (true, _) => 8,
+        (false, true) => 9,
+        (false, false) => 0,
+    }
 }
 
 #[test]
@@ -125,11 +129,10 @@ fn set_securebits_for_every_pair() {
         let able = with_setpcap(unable.clone());
         for new in 0..=255u8 {
             let set = step(9, u64::from(new), 0, 0);
-            assert_eq!(perform(&unable, &set).code, 1);
-            if securebits_allowed(old, new) {
-                assert_eq!(after(&able, &set), Credentials { securebits: new, ..able.clone() });
-            } else {
-                assert_refused(&able, &set, 1);
+            assert_not_permitted(&unable, &set, 1);
+            match securebits_cause(old, new) {
+                0 => assert_eq!(after(&able, &set), Credentials { securebits: new, ..able.clone() }),
+                cause => assert_not_permitted(&able, &set, cause),
             }
         }
     }
@@ -154,8 +157,8 @@ fn set_keep_caps_needs_no_capability_but_no_lock() {
     }
     for locked in [KEEP_CAPS_LOCKED, KEEP_CAPS | KEEP_CAPS_LOCKED] {
         let before = Credentials { securebits: locked, ..full_root() };
-        assert_refused(&before, &step(11, 0, 0, 0), 1);
-        assert_refused(&before, &step(11, 1, 0, 0), 1);
+        assert_not_permitted(&before, &step(11, 0, 0, 0), 9);
+        assert_not_permitted(&before, &step(11, 1, 0, 0), 9);
     }
 }
 

@@ -141,7 +141,7 @@ fn calls() {
     }
     for unknown in ["0", "23", "99"] {
         let (_, report) = run(with_line(16, &format!("call={unknown}\n")).as_bytes());
-        assert!(report.starts_with("code=22\nvalue=0000000000000000\ncode=0\n"));
+        assert!(report.starts_with("code=22\nvalue=0000000000000000\ncause=0\ncode=0\n"));
     }
 }
 
@@ -153,8 +153,9 @@ fn attributes() {
     for digits in 0..60 {
         let text = with_line(20, &format!("attr={}\n", "0".repeat(digits)));
         if digits <= 48 && digits % 2 == 0 {
-            let expected = if digits == 0 { "code=0\n" } else { "code=60\n" };
-            assert!(run(text.as_bytes()).1.starts_with(expected));
+            let code = if digits == 0 { 0 } else { 60 };
+            let expected = format!("code={code}\nvalue=0000000000000000\ncause=0\n");
+            assert!(run(text.as_bytes()).1.starts_with(&expected));
         } else {
             assert_malformed(text.as_bytes(), 20);
         }
@@ -173,8 +174,8 @@ fn text_past_the_last_step() {
 fn a_257th_step_is_a_fault_at_line_1296() {
     let most = format!("{SHEET}{}", LAUNCH.repeat(256));
     let (outcome, report) = run(most.as_bytes());
-    assert_eq!(outcome, Outcome::Report { length: 256 * 30 + SHEET.len() });
-    assert_eq!(report, format!("{}{SHEET}", "code=0\nvalue=0000000000000000\n".repeat(256)));
+    assert_eq!(outcome, Outcome::Report { length: 256 * 38 + SHEET.len() });
+    assert_eq!(report, format!("{}{SHEET}", "code=0\nvalue=0000000000000000\ncause=0\n".repeat(256)));
     for more in [LAUNCH, "call=1\n", "c", "\n", "\0", "noise", &LAUNCH.repeat(3)] {
         assert_malformed(format!("{most}{more}").as_bytes(), 1296);
     }

@@ -71,7 +71,7 @@ fn setgid_without_it_takes_real_or_saved() {
         assert_eq!(setgid_groups(&before, 1), [1, 1, 3, 1]);
         assert_eq!(setgid_groups(&before, 3), [1, 3, 3, 3]);
         for gid in [0, 2, 4, 9, 11, 12, 13, 14, LEAVE - 1] {
-            assert_refused(&before, &step(19, gid, 0, 0), 1);
+            assert_not_permitted(&before, &step(19, gid, 0, 0), 10);
         }
         assert_refused(&before, &step(19, LEAVE, 0, 0), 22);
     }
@@ -80,10 +80,10 @@ fn setgid_without_it_takes_real_or_saved() {
 #[test]
 fn group_0_is_no_substitute_for_the_capability() {
     let before = with_groups(root(), 0, 0, 0, 0);
-    assert_refused(&before, &step(19, 9, 0, 0), 1);
-    assert_refused(&before, &step(20, 9, LEAVE, 0), 1);
-    assert_refused(&before, &step(20, LEAVE, 9, 0), 1);
-    assert_refused(&before, &step(21, 9, LEAVE, LEAVE), 1);
+    assert_not_permitted(&before, &step(19, 9, 0, 0), 10);
+    assert_not_permitted(&before, &step(20, 9, LEAVE, 0), 10);
+    assert_not_permitted(&before, &step(20, LEAVE, 9, 0), 10);
+    assert_not_permitted(&before, &step(21, 9, LEAVE, LEAVE), 10);
     assert_eq!(setfsgid_groups(&before, 9), (0, [0, 0, 0, 0]));
 }
 
@@ -100,12 +100,12 @@ fn setregid_without_the_capability() {
         assert_eq!(setregid_groups(&before, 1, 1), [1, 1, 1, 1]);
         assert_eq!(setregid_groups(&before, 1, 3), [1, 3, 3, 3]);
         for real in [0, 3, 4, 9, 11, 12] {
-            assert_refused(&before, &step(20, real, LEAVE, 0), 1);
-            assert_refused(&before, &step(20, real, 1, 0), 1);
+            assert_not_permitted(&before, &step(20, real, LEAVE, 0), 10);
+            assert_not_permitted(&before, &step(20, real, 1, 0), 10);
         }
         for effective in [0, 4, 9, 11, 12, 13] {
-            assert_refused(&before, &step(20, LEAVE, effective, 0), 1);
-            assert_refused(&before, &step(20, 1, effective, 0), 1);
+            assert_not_permitted(&before, &step(20, LEAVE, effective, 0), 10);
+            assert_not_permitted(&before, &step(20, 1, effective, 0), 10);
         }
     }
 }
@@ -134,10 +134,10 @@ fn setresgid_without_the_capability() {
         assert_eq!(setresgid_groups(&before, LEAVE, 1, LEAVE), [1, 1, 3, 1]);
         assert_eq!(setresgid_groups(&before, LEAVE, LEAVE, 1), [1, 2, 1, 2]);
         for other in [0, 4, 9, 11, 12, 13, 14] {
-            assert_refused(&before, &step(21, other, LEAVE, LEAVE), 1);
-            assert_refused(&before, &step(21, LEAVE, other, LEAVE), 1);
-            assert_refused(&before, &step(21, LEAVE, LEAVE, other), 1);
-            assert_refused(&before, &step(21, 1, 2, other), 1);
+            assert_not_permitted(&before, &step(21, other, LEAVE, LEAVE), 10);
+            assert_not_permitted(&before, &step(21, LEAVE, other, LEAVE), 10);
+            assert_not_permitted(&before, &step(21, LEAVE, LEAVE, other), 10);
+            assert_not_permitted(&before, &step(21, 1, 2, other), 10);
         }
     }
 }
@@ -254,12 +254,12 @@ fn setgid_is_no_help_to_user_id_calls() {
     let before = with_setgid(four_groups());
     // 9 is no ID of the thread, 1 to 4 are its group IDs.
     for uid in [9, 1, 2, 3, 4] {
-        assert_refused(&before, &step(15, uid, 0, 0), 1);
-        assert_refused(&before, &step(16, uid, LEAVE, 0), 1);
-        assert_refused(&before, &step(16, LEAVE, uid, 0), 1);
-        assert_refused(&before, &step(17, uid, LEAVE, LEAVE), 1);
-        assert_refused(&before, &step(17, LEAVE, uid, LEAVE), 1);
-        assert_refused(&before, &step(17, LEAVE, LEAVE, uid), 1);
+        assert_not_permitted(&before, &step(15, uid, 0, 0), 10);
+        assert_not_permitted(&before, &step(16, uid, LEAVE, 0), 10);
+        assert_not_permitted(&before, &step(16, LEAVE, uid, 0), 10);
+        assert_not_permitted(&before, &step(17, uid, LEAVE, LEAVE), 10);
+        assert_not_permitted(&before, &step(17, LEAVE, uid, LEAVE), 10);
+        assert_not_permitted(&before, &step(17, LEAVE, LEAVE, uid), 10);
         assert_eq!(done(&before, &step(18, uid, 0, 0)), (14, before.clone()));
     }
 }
@@ -297,15 +297,6 @@ securebits=00
 nnp=0
 ";
 
-/// The text of steps without an attribute.
-fn steps(steps: &[(u8, [u64; 3])]) -> String {
-    let mut text = String::new();
-    for (call, [a, b, c]) in steps {
-        text += &format!("call={call}\na={a:016x}\nb={b:016x}\nc={c:016x}\nattr=\n");
-    }
-    text
-}
-
 #[test]
 fn group_calls_in_a_plan() {
     let first = steps(&[
@@ -318,14 +309,19 @@ fn group_calls_in_a_plan() {
     let answers = "\
 code=0
 value=0000000000000190
+cause=0
 code=0
 value=0000000000000190
+cause=0
 code=0
 value=000000000000012c
+cause=0
 code=1
 value=0000000000000000
+cause=10
 code=0
 value=0000000000000000
+cause=0
 ";
     let sheet = START.replace("egid=200", "egid=300").replace("fsgid=400", "fsgid=300");
     assert_eq!(run(format!("{START}{first}").as_bytes()).1, format!("{answers}{sheet}"));
@@ -338,10 +334,13 @@ value=0000000000000000
     let more_answers = "\
 code=0
 value=0000000000000000
+cause=0
 code=0
 value=0000000000000000
+cause=0
 code=22
 value=0000000000000000
+cause=0
 ";
     let sheet = START
         .replace("rgid=100", "rgid=300")
@@ -358,6 +357,7 @@ fn a_set_group_id_launch_in_a_plan() {
     let expected = "\
 code=0
 value=0000000000000000
+cause=0
 ruid=1000
 euid=1000
 suid=1000
@@ -377,7 +377,7 @@ nnp=0
     assert_eq!(run(format!("{START}{launch}").as_bytes()).1, expected);
     let refused = steps(&[(1, [0, SET_GROUP_ID, LEAVE])]);
     let report = run(format!("{START}{refused}").as_bytes()).1;
-    assert_eq!(report, format!("code=22\nvalue=0000000000000000\n{START}"));
+    assert_eq!(report, format!("code=22\nvalue=0000000000000000\ncause=0\n{START}"));
 }
 
 #[test]
@@ -387,6 +387,7 @@ fn a_set_group_id_launch_in_the_effective_group_in_a_plan() {
     let expected = "\
 code=0
 value=0000000000000000
+cause=0
 ruid=1000
 euid=1000
 suid=1000

@@ -156,8 +156,8 @@ pub fn attribute(permitted: u64, inheritable: u64, effective: bool) -> Vec<u8> {
 
 /// Performs a call that the rules allow, and gives the value and the credentials after it.
 pub fn done(before: &Credentials, step: &Step) -> (u64, Credentials) {
-    let Answer { code, value, after } = perform(before, step);
-    assert_eq!(code, 0, "{step:?} on {before:?}");
+    let Answer { code, value, cause, after } = perform(before, step);
+    assert_eq!((code, cause), (0, 0), "{step:?} on {before:?}");
     assert!(after.is_valid(), "{step:?} on {before:?}");
     (value, after)
 }
@@ -169,9 +169,17 @@ pub fn after(before: &Credentials, step: &Step) -> Credentials {
     after
 }
 
-/// A call that is refused answers its code, value 0 and the credentials as they were.
+/// A call that is refused with 22, 60 or 72 answers its code, value 0, cause 0 and the credentials as they were.
 pub fn assert_refused(before: &Credentials, step: &Step, code: u32) {
-    let answer = Answer { code, value: 0, after: before.clone() };
+    assert!([22, 60, 72].contains(&code), "refusal 1 has a cause");
+    let answer = Answer { code, value: 0, cause: 0, after: before.clone() };
+    assert_eq!(perform(before, step), answer, "{step:?} on {before:?}");
+}
+
+/// A call that the rules do not allow answers 1, value 0, its cause and the credentials as they were.
+pub fn assert_not_permitted(before: &Credentials, step: &Step, cause: u32) {
+    assert!((1..=11).contains(&cause), "there are eleven causes");
+    let answer = Answer { code: 1, value: 0, cause, after: before.clone() };
     assert_eq!(perform(before, step), answer, "{step:?} on {before:?}");
 }
 
@@ -207,6 +215,7 @@ attr=
 pub const REPORT: &str = "\
 code=0
 value=0000000000000000
+cause=0
 ruid=1000
 euid=1000
 suid=1000
@@ -223,6 +232,15 @@ ambient=0000000000002000
 securebits=00
 nnp=0
 ";
+
+/// The text of steps without an attribute.
+pub fn steps(steps: &[(u8, [u64; 3])]) -> String {
+    let mut text = String::new();
+    for (call, [a, b, c]) in steps {
+        text += &format!("call={call}\na={a:016x}\nb={b:016x}\nc={c:016x}\nattr=\n");
+    }
+    text
+}
 
 /// The outcome of a plan, and its report; a refused plan must leave the buffer alone.
 pub fn run(plan: &[u8]) -> (Outcome, String) {

@@ -46,7 +46,7 @@ fn a_ignored_attribute_counts_as_not_attached_for_root() {
 fn a_bounding_refusal_does_not_come_from_an_ignored_attribute() {
     let before = Credentials { bounding: 0, ..user() };
     let file = attribute(SYS_RAWIO, 0, true);
-    assert_refused(&before, &execve(0, 0, file.clone()), 1);
+    assert_not_permitted(&before, &execve(0, 0, file.clone()), 11);
     for flags in [NOSUID, TRACED, NO_FILE_CAPS] {
         assert_eq!(after(&before, &execve(0, flags, file.clone())), before);
     }
@@ -427,7 +427,7 @@ fn d_an_attribute_counts_beside_bits_that_change_nothing() {
 
         assert_refused(&ambient_four_groups(), &file(unreadable()), 60);
         let before = Credentials { bounding: 0, ..ambient_four_groups() };
-        assert_refused(&before, &file(attribute(NET_RAW, 0, true)), 1);
+        assert_not_permitted(&before, &file(attribute(NET_RAW, 0, true)), 11);
     }
 }
 
@@ -551,7 +551,7 @@ fn e_keep_caps_alone_is_cleared() {
 #[test]
 fn f_root_is_refused_too() {
     let before = Credentials { bounding: FULL & !SYS_RAWIO, ..full_root() };
-    assert_refused(&before, &execve(0, 0, attribute(SYS_RAWIO, 0, true)), 1);
+    assert_not_permitted(&before, &execve(0, 0, attribute(SYS_RAWIO, 0, true)), 11);
     let launched = after(&before, &execve(0, 0, attribute(SYS_RAWIO, 0, false)));
     assert_eq!(launched.permitted, FULL & !SYS_RAWIO);
 }
@@ -560,7 +560,7 @@ fn f_root_is_refused_too() {
 fn f_looks_at_the_files_own_inheritable_set() {
     // Root with I={17}: with the file counted as full it would get 17 from I, but its own inheritable set is empty.
     let before = Credentials { bounding: FULL & !SYS_RAWIO, inheritable: SYS_RAWIO, ..root() };
-    assert_refused(&before, &execve(0, 0, attribute(SYS_RAWIO, 0, true)), 1);
+    assert_not_permitted(&before, &execve(0, 0, attribute(SYS_RAWIO, 0, true)), 11);
     let launched = after(&before, &execve(0, 0, attribute(SYS_RAWIO, SYS_RAWIO, true)));
     assert_eq!((launched.permitted, launched.effective), (FULL, FULL));
 }
@@ -568,15 +568,15 @@ fn f_looks_at_the_files_own_inheritable_set() {
 #[test]
 fn f_holds_in_the_exception_and_under_noroot() {
     let before = Credentials { bounding: 0, ..user() };
-    assert_refused(&before, &execve(0, SET_USER_ID, attribute(NET_RAW, 0, true)), 1);
+    assert_not_permitted(&before, &execve(0, SET_USER_ID, attribute(NET_RAW, 0, true)), 11);
     let before = Credentials { securebits: NOROOT, ..before };
-    assert_refused(&before, &execve(0, SET_USER_ID, attribute(NET_RAW, 0, true)), 1);
+    assert_not_permitted(&before, &execve(0, SET_USER_ID, attribute(NET_RAW, 0, true)), 11);
 }
 
 #[test]
 fn f_ambient_does_not_help() {
     let before = Credentials { bounding: 0, ..ambient_user() };
-    assert_refused(&before, &execve(0, 0, attribute(NET_RAW, 0, true)), 1);
+    assert_not_permitted(&before, &execve(0, 0, attribute(NET_RAW, 0, true)), 11);
 }
 
 #[test]
@@ -591,6 +591,9 @@ fn version_1_launches_as_version_2() {
     let version_1 = vec![1, 0, 0, 1, 0, 0x20, 0, 0, 0, 0x10, 0, 0];
     let before = Credentials { inheritable: NET_ADMIN, ..user() };
     let version_2 = execve(0, 0, attribute(NET_RAW, NET_ADMIN, true));
-    assert_eq!(perform(&before, &execve(0, 0, version_1)), perform(&before, &version_2));
+    assert_eq!(perform(&before, &execve(0, 0, version_1.clone())), perform(&before, &version_2));
     assert_eq!(after(&before, &version_2).permitted, NET_RAW | NET_ADMIN);
+    let bounded = Credentials { bounding: 0, ..before };
+    assert_not_permitted(&bounded, &execve(0, 0, version_1), 11);
+    assert_not_permitted(&bounded, &version_2, 11);
 }

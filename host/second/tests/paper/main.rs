@@ -4,6 +4,7 @@ mod attribute;
 mod bench;
 mod buffer;
 mod calls;
+mod causes;
 mod faults;
 mod group_ids;
 mod helpers;

@@ -251,8 +251,8 @@ fn order_22_before_60_before_1() {
     assert_refused(&before, &of_group(LEAVE - 1, execve(0, 0, unreadable.clone())), 60);
     assert_refused(&before, &of_group(9, execve(0, SET_GROUP_ID, unreadable.clone())), 60);
     assert_refused(&before, &execve(0, 0, unreadable), 60);
-    assert_refused(&before, &execve(0, 0, refused_by_f.clone()), 1);
-    assert_refused(&before, &of_group(9, execve(0, SET_GROUP_ID, refused_by_f.clone())), 1);
+    assert_not_permitted(&before, &execve(0, 0, refused_by_f.clone()), 11);
+    assert_not_permitted(&before, &of_group(9, execve(0, SET_GROUP_ID, refused_by_f.clone())), 11);
     assert_refused(&before, &of_group(LEAVE, execve(0, 0, refused_by_f.clone())), 22);
     assert_refused(&before, &execve(LEAVE, 0, refused_by_f), 22);
 }
@@ -260,25 +260,26 @@ fn order_22_before_60_before_1() {
 #[test]
 fn order_22_before_1() {
     assert_refused(&user(), &step(3, 41, 0, 0), 22);
-    assert_refused(&user(), &step(3, 40, 0, 0), 1);
+    assert_not_permitted(&user(), &step(3, 40, 0, 0), 1);
     assert_refused(&user(), &step(5, 41, 0, 0), 22);
+    assert_not_permitted(&user(), &step(5, 40, 0, 0), 6);
     assert_refused(&user(), &step(9, 256, 0, 0), 22);
-    assert_refused(&user(), &step(9, 255, 0, 0), 1);
+    assert_not_permitted(&user(), &step(9, 255, 0, 0), 1);
     assert_refused(&user(), &step(2, 1 << 41, 0, 0), 22);
-    assert_refused(&user(), &step(2, 1 << 40, 0, 0), 1);
+    assert_not_permitted(&user(), &step(2, 1 << 40, 0, 0), 4);
     assert_refused(&user(), &step(15, LEAVE, 0, 0), 22);
-    assert_refused(&user(), &step(15, LEAVE - 1, 0, 0), 1);
+    assert_not_permitted(&user(), &step(15, LEAVE - 1, 0, 0), 10);
     assert_refused(&user(), &step(16, 1, LEAVE + 1, 0), 22);
     assert_refused(&user(), &step(19, LEAVE, 0, 0), 22);
-    assert_refused(&user(), &step(19, LEAVE - 1, 0, 0), 1);
+    assert_not_permitted(&user(), &step(19, LEAVE - 1, 0, 0), 10);
     assert_refused(&user(), &step(20, 1, LEAVE + 1, 0), 22);
     assert_refused(&user(), &step(20, 1, LEAVE, 1), 22);
-    assert_refused(&user(), &step(20, 1, LEAVE, 0), 1);
+    assert_not_permitted(&user(), &step(20, 1, LEAVE, 0), 10);
     assert_refused(&user(), &step(21, 1, LEAVE, LEAVE + 1), 22);
-    assert_refused(&user(), &step(21, 1, LEAVE, LEAVE), 1);
+    assert_not_permitted(&user(), &step(21, 1, LEAVE, LEAVE), 10);
     let locked = Credentials { securebits: KEEP_CAPS_LOCKED, ..user() };
     assert_refused(&locked, &step(11, 2, 0, 0), 22);
-    assert_refused(&locked, &step(11, 1, 0, 0), 1);
+    assert_not_permitted(&locked, &step(11, 1, 0, 0), 9);
 }
 
 #[test]

@@ -35,15 +35,15 @@ fn setuid_without_it_takes_real_or_saved() {
     assert_eq!(setuid_ids(&four_ids(), 1), [1, 1, 3, 1]);
     assert_eq!(setuid_ids(&four_ids(), 3), [1, 3, 3, 3]);
     for uid in [0, 2, 4, 9] {
-        assert_refused(&four_ids(), &step(15, uid, 0, 0), 1);
+        assert_not_permitted(&four_ids(), &step(15, uid, 0, 0), 10);
     }
 }
 
 #[test]
 fn the_capability_must_be_effective_and_id_0_is_no_substitute() {
     let permitted_only = Credentials { permitted: SETUID, ..four_ids() };
-    assert_refused(&permitted_only, &step(15, 9, 0, 0), 1);
-    assert_refused(&root(), &step(15, 9, 0, 0), 1);
+    assert_not_permitted(&permitted_only, &step(15, 9, 0, 0), 10);
+    assert_not_permitted(&root(), &step(15, 9, 0, 0), 10);
 }
 
 #[test]
@@ -58,12 +58,12 @@ fn setreuid_without_the_capability() {
     assert_eq!(setreuid_ids(&before, 2, 1), [2, 1, 1, 1]);
     assert_eq!(setreuid_ids(&before, 1, 1), [1, 1, 1, 1]);
     for real in [0, 3, 4, 9] {
-        assert_refused(&before, &step(16, real, LEAVE, 0), 1);
-        assert_refused(&before, &step(16, real, 1, 0), 1);
+        assert_not_permitted(&before, &step(16, real, LEAVE, 0), 10);
+        assert_not_permitted(&before, &step(16, real, 1, 0), 10);
     }
     for effective in [0, 4, 9] {
-        assert_refused(&before, &step(16, LEAVE, effective, 0), 1);
-        assert_refused(&before, &step(16, 1, effective, 0), 1);
+        assert_not_permitted(&before, &step(16, LEAVE, effective, 0), 10);
+        assert_not_permitted(&before, &step(16, 1, effective, 0), 10);
     }
 }
 
@@ -87,9 +87,9 @@ fn setresuid_without_the_capability() {
     assert_eq!(setresuid_ids(&before, 3, LEAVE, 2), [3, 2, 2, 2]);
     assert_eq!(setresuid_ids(&before, LEAVE, 1, LEAVE), [1, 1, 3, 1]);
     for other in [0, 4, 9] {
-        assert_refused(&before, &step(17, other, LEAVE, LEAVE), 1);
-        assert_refused(&before, &step(17, LEAVE, other, LEAVE), 1);
-        assert_refused(&before, &step(17, LEAVE, LEAVE, other), 1);
+        assert_not_permitted(&before, &step(17, other, LEAVE, LEAVE), 10);
+        assert_not_permitted(&before, &step(17, LEAVE, other, LEAVE), 10);
+        assert_not_permitted(&before, &step(17, LEAVE, LEAVE, other), 10);
     }
 }
 
