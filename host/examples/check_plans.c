@@ -3,8 +3,9 @@
  *     check_plans PLAN..
  *
  * For a plan that is accepted, its name and its report go to standard output. Why another is refused goes to standard error, with file and
- * line in the form that editors understand. Every plan is looked at, whatever the ones before it came to. The status is 0 if all are
- * accepted, 1 if one is refused, and 2 if one cannot be read, if the output cannot be written, or if no plan is named. */
+ * line in the form that editors understand; and so does, after the report of one that is accepted, why a step of it is refused, with the line
+ * where the step begins. Every plan is looked at, whatever the ones before it came to. The status is 0 if all are accepted, 1 if one is
+ * refused, and 2 if one cannot be read, if the output cannot be written, or if no plan is named. */
 #include "urrezkalu.h"
 
 #include <errno.h>
@@ -15,6 +16,9 @@
 
 /* What has been found, and the exit status that says so. The greatest of several counts. */
 enum status { ACCEPTED = 0, REFUSED = 1, FAILED = 2 };
+
+/* How many lines of a plan a sheet and a step have. */
+enum { SHEET_LINES = 15, STEP_LINES = 5 };
 
 /* The first bytes of a file. One byte more than the longest plan has is enough: what stands after it decides nothing. */
 struct text {
@@ -47,13 +51,46 @@ static enum status write_report(const char *name, const uint8_t *report, size_t 
     return ACCEPTED;
 }
 
+/* Why a step is refused. */
+static const char *reason(const struct urrezkalu_result *result)
+{
+    switch (result->code) {
+    case URREZKALU_NOT_PERMITTED:
+        return urrezkalu_cause_words(result->cause);
+    case URREZKALU_UNREADABLE:
+        return "the attribute cannot be read";
+    default:
+        return "number, operands and attribute make no call";
+    }
+}
+
+/* Says of each step in the report that is refused why, and on which line of the plan it begins. */
+static void tell_refused_steps(const char *name, const uint8_t *report, size_t length)
+{
+    struct urrezkalu_result result;
+    size_t size;
+    for (unsigned step = 1; (size = urrezkalu_read_result(report, length, &result)) != 0; step++) {
+        if (result.code != URREZKALU_DONE) {
+            unsigned line = SHEET_LINES + STEP_LINES * (step - 1) + 1;
+            fprintf(stderr, "%s:%u: step %u is refused: %s\n", name, line, step, reason(&result));
+        }
+        report += size;
+        length -= size;
+    }
+}
+
 static enum status check_text(const char *name, const struct text *text)
 {
     uint8_t report[URREZKALU_LONGEST_REPORT];
     uint64_t number = urrezkalu_run_plan(text->bytes, text->length, report, sizeof report);
+    enum status written;
     switch (urrezkalu_code(number)) {
     case URREZKALU_DONE:
-        return write_report(name, report, urrezkalu_length(number));
+        written = write_report(name, report, urrezkalu_length(number));
+        if (written == ACCEPTED) {
+            tell_refused_steps(name, report, urrezkalu_length(number));
+        }
+        return written;
     case URREZKALU_MALFORMED:
         fprintf(stderr, "%s:%u: malformed plan: this line is the first that is missing, incomplete or wrong\n", name,
                 (unsigned)urrezkalu_line(number));

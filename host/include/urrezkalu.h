@@ -1,7 +1,8 @@
 /* The proved library, for C11 and C++11: plans, credential sheets, file attributes, and capability sets in names.
  *
  * A plan is a text: the credentials that a thread starts with, then up to 256 calls. urrezkalu_run_plan writes the report: what each call
- * answers and what the thread holds after the last, or it says why the plan is refused. Every text gets an answer.
+ * answers and what the thread holds after the last, or it says why the plan is refused. Every text gets an answer. urrezkalu_read_result takes a
+ * report apart, step by step.
  *
  *     uint8_t report[URREZKALU_LONGEST_REPORT];
  *     uint64_t number = urrezkalu_run_plan(plan, plan_length, report, sizeof report);
@@ -59,12 +60,13 @@
 extern "C" {
 #endif
 
-/* The codes. Each function names those that it has. */
+/* The codes. Each function names those that it has. A step of a plan has the first, second, third or fifth. */
 enum {
     URREZKALU_DONE = 0,          /* Done. */
-    URREZKALU_OUT_OF_RANGE = 22, /* A set has a bit above 40, or a file's effective bit is neither 0 nor 1. */
+    URREZKALU_NOT_PERMITTED = 1, /* Of a step alone: the rules refuse it, and it has a cause. */
+    URREZKALU_OUT_OF_RANGE = 22, /* A set has a bit above 40, or a file's effective bit is neither 0 nor 1. A step: it makes no call. */
     URREZKALU_NO_ROOM = 28,      /* What is to be written is longer than the buffer. */
-    URREZKALU_UNREADABLE = 60,   /* The bytes are no attribute. */
+    URREZKALU_UNREADABLE = 60,   /* The bytes are no attribute. A step: those of its attribute. */
     URREZKALU_MALFORMED = 70,    /* The text is no plan, or no sheet: urrezkalu_line says where. Or no text in names: urrezkalu_place does. */
     URREZKALU_INVALID = 72       /* The credentials are not valid. */
 };
@@ -74,7 +76,7 @@ enum {
      * nobody needs to read or pass more than those. */
     URREZKALU_LONGEST_PLAN = 30748,
     /* The most bytes that a report has: a buffer of this length is never too short. */
-    URREZKALU_LONGEST_REPORT = 8220,
+    URREZKALU_LONGEST_REPORT = 10268,
     /* The most bytes that a sheet has: a buffer of this length is never too short. Of a longer text, here too, the first
      * URREZKALU_LONGEST_SHEET + 1 bytes decide the line. */
     URREZKALU_LONGEST_SHEET = 284,
@@ -83,6 +85,40 @@ enum {
     /* The most bytes that sets have which are written in names: a buffer of this length is never too short. A text that is read may be longer; it
      * has no greatest length. */
     URREZKALU_LONGEST_NAMES = 748
+};
+
+/* Why the rules refuse a step, URREZKALU_NOT_PERMITTED. Where several hold at once, the lowest is told. urrezkalu_cause_words has them in words. */
+enum {
+    URREZKALU_NO_CAUSE = 0, /* Of every other step. */
+    /* A capability that the call needs is not effective. */
+    URREZKALU_CAPABILITY_NOT_EFFECTIVE = 1,
+    /* capset, without CAP_SETPCAP: the new inheritable set goes beyond the inheritable and the permitted set together. */
+    URREZKALU_INHERITABLE_BEYOND_PERMITTED = 2,
+    /* capset: the new inheritable set goes beyond the inheritable and the bounding set together. */
+    URREZKALU_INHERITABLE_BEYOND_BOUNDING = 3,
+    /* capset: the new permitted set goes beyond the permitted set. */
+    URREZKALU_PERMITTED_GROWS = 4,
+    /* capset: the new effective set goes beyond the new permitted set. */
+    URREZKALU_EFFECTIVE_BEYOND_PERMITTED = 5,
+    /* Ambient raise: the capability is not in both the permitted and the inheritable set. */
+    URREZKALU_NOT_IN_PERMITTED_AND_INHERITABLE = 6,
+    /* Ambient raise: SECBIT_NO_CAP_AMBIENT_RAISE is set. */
+    URREZKALU_AMBIENT_RAISE_FORBIDDEN = 7,
+    /* A lock of the securebits would be undone. */
+    URREZKALU_LOCK_UNDONE = 8,
+    /* A locked flag of the securebits would be changed; keep-caps by its own call also where it would stay as it is. */
+    URREZKALU_LOCKED_FLAG_CHANGED = 9,
+    /* An ID is not among those that the thread may take. */
+    URREZKALU_ID_NOT_ALLOWED = 10,
+    /* A launch does not give the whole of the file's permitted set, and the file's effective bit is on. */
+    URREZKALU_LAUNCH_FALLS_SHORT = 11
+};
+
+/* What a report says of a step. */
+struct urrezkalu_result {
+    uint64_t value; /* What a call that is done gives; 0 for a refusal. */
+    uint32_t code;
+    uint32_t cause;
 };
 
 /* The places of a sheet's values, in the order of its lines. In a set, bit n is capability n. */
@@ -125,7 +161,7 @@ enum {
 /* Runs the plan and writes its report at the front of the buffer `report`, which has room for `report_length` bytes.
  *
  * Refusals, in this order: URREZKALU_MALFORMED; URREZKALU_INVALID, for the credentials that the plan starts with; URREZKALU_NO_ROOM. A step
- * that is refused does not refuse the plan: its code is in the report. */
+ * that is refused does not refuse the plan: its code and its cause are in the report. */
 uint64_t urrezkalu_run_plan(const uint8_t *plan, size_t plan_length, uint8_t *report, size_t report_length);
 
 /* Reads a sheet into the first URREZKALU_SHEET_VALUES of the `values_count` values, and URREZKALU_SHEET_VALUES is the length that comes back.
@@ -201,6 +237,77 @@ static inline uint32_t urrezkalu_place(uint64_t number)
 static inline size_t urrezkalu_length(uint64_t number)
 {
     return urrezkalu_code(number) == URREZKALU_DONE ? (size_t)(number & UINT32_MAX) : 0;
+}
+
+/* For urrezkalu_read_result: the number of the line `key`, digits of that base and a newline, which begins at `at`; the position past it comes back,
+ * or 0 where there is no such line. */
+static inline size_t urrezkalu_read_line_(const uint8_t *text, size_t length, size_t at, const char *key, unsigned base, uint64_t *number)
+{
+    for (; *key != '\0'; key++, at++) {
+        if (at >= length || text[at] != (uint8_t)*key) {
+            return 0;
+        }
+    }
+    size_t first = at;
+    *number = 0;
+    for (; at < length; at++) {
+        unsigned decimal = text[at] - (unsigned)'0';
+        unsigned letter = text[at] - (unsigned)'a';
+        unsigned digit = decimal < 10 ? decimal : letter < 6 ? 10 + letter : base;
+        if (digit >= base || at - first == 16) {
+            break;
+        }
+        *number = *number * base + digit;
+    }
+    return at > first && at < length && text[at] == '\n' ? at + 1 : 0;
+}
+
+/* Reads the result of a step at the front of a report, or of what is left of one, and gives how many bytes its lines have. 0 comes back, and
+ * `result` is as it was, where no result stands there: that is so where the sheet begins, after the last. */
+static inline size_t urrezkalu_read_result(const uint8_t *report, size_t report_length, struct urrezkalu_result *result)
+{
+    uint64_t code, value, cause;
+    size_t at = urrezkalu_read_line_(report, report_length, 0, "code=", 10, &code);
+    at = at == 0 ? 0 : urrezkalu_read_line_(report, report_length, at, "value=", 16, &value);
+    at = at == 0 ? 0 : urrezkalu_read_line_(report, report_length, at, "cause=", 10, &cause);
+    if (at == 0 || code > UINT32_MAX || cause > UINT32_MAX) {
+        return 0;
+    }
+    result->value = value;
+    result->code = (uint32_t)code;
+    result->cause = (uint32_t)cause;
+    return at;
+}
+
+/* A cause in words. */
+static inline const char *urrezkalu_cause_words(uint32_t cause)
+{
+    switch (cause) {
+    case URREZKALU_CAPABILITY_NOT_EFFECTIVE:
+        return "a needed capability is not effective";
+    case URREZKALU_INHERITABLE_BEYOND_PERMITTED:
+        return "the new inheritable set goes beyond the inheritable and permitted sets, and CAP_SETPCAP is not effective";
+    case URREZKALU_INHERITABLE_BEYOND_BOUNDING:
+        return "the new inheritable set goes beyond the inheritable and bounding sets";
+    case URREZKALU_PERMITTED_GROWS:
+        return "the new permitted set goes beyond the permitted set";
+    case URREZKALU_EFFECTIVE_BEYOND_PERMITTED:
+        return "the new effective set goes beyond the new permitted set";
+    case URREZKALU_NOT_IN_PERMITTED_AND_INHERITABLE:
+        return "the capability is not in both the permitted and the inheritable set";
+    case URREZKALU_AMBIENT_RAISE_FORBIDDEN:
+        return "SECBIT_NO_CAP_AMBIENT_RAISE forbids to raise an ambient capability";
+    case URREZKALU_LOCK_UNDONE:
+        return "a lock of the securebits would be undone";
+    case URREZKALU_LOCKED_FLAG_CHANGED:
+        return "a locked flag of the securebits would be set or cleared";
+    case URREZKALU_ID_NOT_ALLOWED:
+        return "an ID is not among those allowed";
+    case URREZKALU_LAUNCH_FALLS_SHORT:
+        return "the launch falls short of the file's permitted set";
+    default:
+        return "no cause";
+    }
 }
 
 #ifdef __cplusplus

@@ -1,15 +1,16 @@
-/* The C header: the number taken apart, with every code; lengths and places; every function by its name. To be built as C11 and as C++11, and
- * linked with the library in both.
+/* The C header: the number taken apart, with every code; lengths and places; the causes, and a report taken apart; every function by its name. To be
+ * built as C11 and as C++11, and linked with the library in both.
  *
  *     header */
 #include "../include/urrezkalu.h"
 
 #include <assert.h>
 #include <stdio.h>
+#include <string.h>
 
 /* As proved in crates/format/specs/Longest.antt and crates/names/specs/Longest.antt. */
 static_assert(URREZKALU_LONGEST_PLAN == 30748, "the longest plan");
-static_assert(URREZKALU_LONGEST_REPORT == 8220, "the longest report");
+static_assert(URREZKALU_LONGEST_REPORT == 10268, "the longest report");
 static_assert(URREZKALU_LONGEST_NAMES == 748, "the longest sets in names");
 
 /* As the paper's forms of lines and of version 2 add up. */
@@ -30,7 +31,17 @@ static_assert(URREZKALU_NAMED_VALUES == 3, "their count");
 
 /* The paper's table "What comes back". */
 static_assert(URREZKALU_DONE == 0 && URREZKALU_OUT_OF_RANGE == 22 && URREZKALU_NO_ROOM == 28, "codes that are errors of the system too");
+static_assert(URREZKALU_NOT_PERMITTED == 1, "the code of a step alone");
 static_assert(URREZKALU_UNREADABLE == 60 && URREZKALU_MALFORMED == 70 && URREZKALU_INVALID == 72, "codes of the house");
+
+/* "Why it was refused": the causes and their numbers. */
+static_assert(URREZKALU_NO_CAUSE == 0 && URREZKALU_CAPABILITY_NOT_EFFECTIVE == 1, "no cause, and the first");
+static_assert(URREZKALU_INHERITABLE_BEYOND_PERMITTED == 2 && URREZKALU_INHERITABLE_BEYOND_BOUNDING == 3 && URREZKALU_PERMITTED_GROWS == 4 &&
+                  URREZKALU_EFFECTIVE_BEYOND_PERMITTED == 5,
+              "capset's tests in their order");
+static_assert(URREZKALU_NOT_IN_PERMITTED_AND_INHERITABLE == 6 && URREZKALU_AMBIENT_RAISE_FORBIDDEN == 7, "the tests of an ambient raise");
+static_assert(URREZKALU_LOCK_UNDONE == 8 && URREZKALU_LOCKED_FLAG_CHANGED == 9, "locks");
+static_assert(URREZKALU_ID_NOT_ALLOWED == 10 && URREZKALU_LAUNCH_FALLS_SHORT == 11, "IDs, and a launch");
 
 struct number {
     uint64_t whole;
@@ -46,10 +57,10 @@ static const struct number numbers[] = {
     {4, URREZKALU_DONE, 0, URREZKALU_FILE_VALUES},
     {15, URREZKALU_DONE, 0, URREZKALU_SHEET_VALUES},
     {20, URREZKALU_DONE, 0, URREZKALU_ATTRIBUTE_LENGTH},
-    {266, URREZKALU_DONE, 0, 266},
+    {274, URREZKALU_DONE, 0, 274},
     {284, URREZKALU_DONE, 0, URREZKALU_LONGEST_SHEET},
     {748, URREZKALU_DONE, 0, URREZKALU_LONGEST_NAMES},
-    {8220, URREZKALU_DONE, 0, URREZKALU_LONGEST_REPORT},
+    {10268, URREZKALU_DONE, 0, URREZKALU_LONGEST_REPORT},
     {4294967295, URREZKALU_DONE, 0, 4294967295},
     {94489280512, URREZKALU_OUT_OF_RANGE, 0, 0},
     {120259084288, URREZKALU_NO_ROOM, 0, 0},
@@ -88,8 +99,75 @@ static int is_as_expected(const struct number *expected)
            urrezkalu_place(expected->whole) == expected->line && urrezkalu_length(expected->whole) == expected->length;
 }
 
+/* Three results and what stands after them, and where each result ends. */
+static const char report[] = "code=0\nvalue=00000000000000ff\ncause=0\n"
+                             "code=1\nvalue=0000000000000000\ncause=11\n"
+                             "code=22\nvalue=0000000000000000\ncause=0\n"
+                             "ruid=0\n";
+static const struct urrezkalu_result results[] = {{255, 0, 0}, {0, 1, 11}, {0, 22, 0}};
+static const size_t ends[] = {0, 38, 77, 116};
+
+/* The report's first `length` bytes have as many results as are whole. */
+static void expect_results(size_t length)
+{
+    const uint8_t *text = (const uint8_t *)report;
+    for (size_t i = 0; i < 4; i++) {
+        struct urrezkalu_result found = {7, 7, 7};
+        struct urrezkalu_result expected = {7, 7, 7};
+        size_t size = ends[i] <= length ? urrezkalu_read_result(text + ends[i], length - ends[i], &found) : 0;
+        int whole = i < 3 && ends[i + 1] <= length;
+        if (whole) {
+            expected = results[i];
+        }
+        expect(size == (whole ? ends[i + 1] - ends[i] : 0), length, "bytes of a report have another result");
+        expect(found.value == expected.value && found.code == expected.code && found.cause == expected.cause, length,
+               "bytes of a report have a result with other numbers");
+    }
+}
+
+/* Texts that are near to a result and are none. */
+static const char *const none[] = {
+    "",
+    "code=\nvalue=0\ncause=0\n",
+    "code=+1\nvalue=0\ncause=1\n",
+    "code=1 \nvalue=0\ncause=1\n",
+    "code=1\nvalue=g\ncause=1\n",
+    "code=1\nvalue=F\ncause=1\n",
+    "code=1\nvalue=0\ncause=a\n",
+    "code=1\ncause=1\nvalue=0\n",
+    "code=4294967296\nvalue=0\ncause=1\n",
+    "code=1\nvalue=00000000000000000\ncause=1\n",
+    "code=1\nvalue=0\ncause=1",
+    "Code=1\nvalue=0\ncause=1\n",
+};
+
+static void expect_no_results(void)
+{
+    for (size_t i = 0; i < sizeof none / sizeof none[0]; i++) {
+        struct urrezkalu_result found;
+        expect(urrezkalu_read_result((const uint8_t *)none[i], strlen(none[i]), &found) == 0, i, "is no result and was read as one");
+    }
+}
+
+/* Every cause has words of its own, and no other number has. */
+static void expect_words(void)
+{
+    for (uint32_t i = 0; i <= 12; i++) {
+        int has = i >= URREZKALU_CAPABILITY_NOT_EFFECTIVE && i <= URREZKALU_LAUNCH_FALLS_SHORT;
+        expect((strcmp(urrezkalu_cause_words(i), "no cause") != 0) == has, i, "has words for a cause, or none, wrongly");
+        for (uint32_t j = 1; has && j < i; j++) {
+            expect(strcmp(urrezkalu_cause_words(i), urrezkalu_cause_words(j)) != 0, i, "has the words of another cause");
+        }
+    }
+}
+
 int main(void)
 {
+    for (size_t length = 0; length < sizeof report; length++) {
+        expect_results(length);
+    }
+    expect_no_results();
+    expect_words();
     for (size_t i = 0; i < sizeof numbers / sizeof numbers[0]; i++) {
         expect(is_as_expected(&numbers[i]), numbers[i].whole, "is taken apart wrongly");
     }

@@ -12,10 +12,36 @@ start installers "$1" "$2"
 fault='malformed plan: this line is the first that is missing, incomplete or wrong'
 invalid='the credentials at the start are not valid'
 
-# The name and the report of an accepted plan.
+# What a step's code, and of code 1 its cause, is called.
+words() {
+    case $1 in
+    1-1) echo 'a needed capability is not effective' ;;
+    1-2) echo 'the new inheritable set goes beyond the inheritable and permitted sets, and CAP_SETPCAP is not effective' ;;
+    1-3) echo 'the new inheritable set goes beyond the inheritable and bounding sets' ;;
+    1-4) echo 'the new permitted set goes beyond the permitted set' ;;
+    1-5) echo 'the new effective set goes beyond the new permitted set' ;;
+    1-6) echo 'the capability is not in both the permitted and the inheritable set' ;;
+    1-7) echo 'SECBIT_NO_CAP_AMBIENT_RAISE forbids to raise an ambient capability' ;;
+    1-8) echo 'a lock of the securebits would be undone' ;;
+    1-9) echo 'a locked flag of the securebits would be set or cleared' ;;
+    1-10) echo 'an ID is not among those allowed' ;;
+    1-11) echo "the launch falls short of the file's permitted set" ;;
+    22-0) echo 'number, operands and attribute make no call' ;;
+    60-0) echo 'the attribute cannot be read' ;;
+    *) echo "no words for $1" ;;
+    esac
+}
+
+# The name and the report of an accepted plan, and why the steps are refused that are: the first step begins at line 16 of a plan, and each
+# has five lines.
 accepts() {
     prints "$1: accepted"
     prints_file "$2"
+    step=0
+    for result in $(sed -n 's/^code=//p;s/^cause=/-/p' "$2" | paste -d '' - -); do
+        step=$((step + 1))
+        test "$result" = 0-0 || says "$1:$((5 * step + 11)): step $step is refused: $(words "$result")"
+    done
 }
 
 # Every example by itself, and all of them at once. The report beside a refused plan is its code and its line.
@@ -28,7 +54,7 @@ expect_example() {
     esac
 }
 accepted=0
-for plan in "$examples"/*.plan; do
+for plan in "$examples"/*.plan "$examples"/rules/*.plan; do
     expect_example "$plan"
     if test -s "$work/expected/stdout"; then
         accepted=$((accepted + 1))
@@ -53,6 +79,12 @@ says 'invalid-sheet.plan: the credentials at the start are not valid'
 check 'a start that is not valid' 1 invalid-sheet.plan
 says 'usage: check_plans PLAN..'
 check 'no arguments' 2
+cp "$examples/burner-refused.plan" "$examples/burner-refused.report" .
+prints 'burner-refused.plan: accepted'
+prints_file burner-refused.report
+says "burner-refused.plan:26: step 3 is refused: the launch falls short of the file's permitted set"
+says 'burner-refused.plan:36: step 5 is refused: the new inheritable set goes beyond the inheritable and bounding sets'
+check 'refused steps' 0 burner-refused.plan
 says 'missing.plan: cannot be read: No such file or directory'
 check 'a missing file' 2 missing.plan
 says ': cannot be read: No such file or directory'
@@ -112,7 +144,7 @@ sed 's/^sgid=.*/sgid=4294967295/' good.plan >no-group.plan
 says "no-group.plan: $invalid"
 check 'a saved group ID that is not valid' 1 no-group.plan
 
-# The longest plan, 30748 bytes, has the longest report, 8220 bytes. One byte more is a fault, and so is a megabyte more.
+# The longest plan, 30748 bytes, has the longest report, 10268 bytes. One byte more is a fault, and so is a megabyte more.
 ones=ffffffffffffffff
 full=000001ffffffffff
 {
@@ -129,12 +161,12 @@ for _ in $(seq 256); do
     printf 'call=99\na=%s\nb=%s\nc=%s\nattr=%s%s%s\n' $ones $ones $ones $ones $ones $ones
 done >steps
 for _ in $(seq 256); do
-    printf 'code=22\nvalue=0000000000000000\n'
+    printf 'code=22\nvalue=0000000000000000\ncause=0\n'
 done >results
 cat sheet steps >longest.plan
 cat results sheet >longest.report
 test "$(wc -c <longest.plan)" -eq 30748
-test "$(wc -c <longest.report)" -eq 8220
+test "$(wc -c <longest.report)" -eq 10268
 accepts longest.plan longest.report
 check 'the longest plan' 0 longest.plan
 {

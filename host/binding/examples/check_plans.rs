@@ -5,8 +5,9 @@
 //! ```
 //!
 //! For a plan that is accepted, its name and its report go to standard output. Why another is refused goes to standard error, with file and
-//! line in the form that editors understand. Every plan is looked at, whatever the ones before it came to. The status is 0 if all are
-//! accepted, 1 if one is refused, and 2 if one cannot be read, if the output cannot be written, or if no plan is named.
+//! line in the form that editors understand; and so does, after the report of one that is accepted, why a step of it is refused, with the line
+//! where the step begins. Every plan is looked at, whatever the ones before it came to. The status is 0 if all are accepted, 1 if one is
+//! refused, and 2 if one cannot be read, if the output cannot be written, or if no plan is named.
 
 use std::env;
 use std::ffi::{OsStr, OsString};
@@ -15,7 +16,11 @@ use std::io::{self, Read, Write};
 use std::os::unix::ffi::OsStrExt;
 use std::process::ExitCode;
 
-use urrezkalu::{run_plan, Outcome, LONGEST_PLAN, LONGEST_REPORT};
+use urrezkalu::{results, run_plan, Outcome, StepResult, LONGEST_PLAN, LONGEST_REPORT};
+
+/// How many lines of a plan a sheet and a step have.
+const SHEET_LINES: usize = 15;
+const STEP_LINES: usize = 5;
 
 /// What has been found, and the exit status that says so. The greatest of several counts.
 #[derive(Clone, Copy, PartialEq, Eq, PartialOrd, Ord)]
@@ -55,11 +60,24 @@ fn write_report(name: &OsStr, report: &[u8]) -> io::Result<()> {
     output.flush()
 }
 
+/// Says of each step in the report that is refused why, and on which line of the plan it begins.
+fn tell_refused_steps(name: &OsStr, report: &[u8]) {
+    for (at, result) in results(report).enumerate() {
+        if !matches!(result, StepResult::Done { .. }) {
+            let line = SHEET_LINES + STEP_LINES * at + 1;
+            complain(name, &format!(":{line}: step {} is {result}", at + 1));
+        }
+    }
+}
+
 fn check_text(name: &OsStr, text: &[u8]) -> Status {
     let mut report = [0; LONGEST_REPORT];
     match run_plan(text, &mut report) {
         Outcome::Report { length } => match write_report(name, &report[..length]) {
-            Ok(()) => Status::Accepted,
+            Ok(()) => {
+                tell_refused_steps(name, &report[..length]);
+                Status::Accepted
+            }
             Err(error) => {
                 let message = format!(": cannot write to standard output: {}", reason(&error));
                 complain(OsStr::new("check_plans"), &message);

@@ -1,7 +1,7 @@
 //! The proved library, as safe Rust functions: plans, credential sheets, file attributes, and capability sets in names.
 //!
 //! - A plan is a credential sheet and 0 to 256 steps, each a call that a thread makes. [`run_plan`] says what the calls answer and what the thread
-//!   holds after them, or why the plan is refused.
+//!   holds after them, or why the plan is refused. [`results`] takes a report apart: what each step came to, and why it was refused.
 //! - A sheet is the text of a thread's credentials: [`read_sheet`] and [`write_sheet`].
 //! - An attribute is the bytes of a file's security.capability: [`read_attribute`] and [`write_attribute`].
 //! - A text in names stands for three capability sets, in the form of cap_text_formats(7), as `cap_net_raw+ep` does: [`read_names`] and
@@ -23,7 +23,7 @@
 //!
 //! // The launch is done, and leaves the permitted set empty.
 //! let report = std::str::from_utf8(&report[..length]).unwrap();
-//! assert!(report.starts_with("code=0\nvalue=0000000000000000\nruid=1000\n"));
+//! assert!(report.starts_with("code=0\nvalue=0000000000000000\ncause=0\nruid=1000\n"));
 //! assert!(report.contains("\npermitted=0000000000000000\n"));
 //! ```
 
@@ -31,18 +31,22 @@
 #![deny(missing_docs)]
 
 mod attribute;
+mod cause;
 mod credentials;
 pub mod interface;
 mod names;
 mod number;
 mod plan;
+mod report;
 mod sheet;
 
 pub use attribute::{
     read_attribute, write_attribute, AttributeReading, AttributeWriting, FileCapabilities, ATTRIBUTE_LENGTH,
     FILE_VALUES,
 };
+pub use cause::Cause;
 pub use credentials::{Credentials, SHEET_VALUES};
 pub use names::{read_names, write_names, NamedSets, NamesReading, NamesWriting, LONGEST_NAMES, NAMED_VALUES};
 pub use plan::{run_plan, Outcome, LONGEST_PLAN, LONGEST_REPORT};
+pub use report::{results, Results, StepResult};
 pub use sheet::{read_sheet, write_sheet, SheetReading, SheetWriting, LONGEST_SHEET};

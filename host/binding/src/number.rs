@@ -1,6 +1,7 @@
 //! The number of the C interface: the code times 2^32, plus the line or the place of a fault, or plus how much was written.
 
 pub(crate) const DONE: u32 = 0;
+pub(crate) const NOT_PERMITTED: u32 = 1;
 pub(crate) const OUT_OF_RANGE: u32 = 22;
 pub(crate) const NO_ROOM: u32 = 28;
 pub(crate) const UNREADABLE: u32 = 60;

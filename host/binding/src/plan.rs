@@ -9,7 +9,7 @@ use crate::number::{apart, no_such_code, DONE, INVALID, MALFORMED, NO_ROOM};
 pub const LONGEST_PLAN: usize = 30_748;
 
 /// The most bytes that a report has: a buffer of this length is never too short.
-pub const LONGEST_REPORT: usize = 8_220;
+pub const LONGEST_REPORT: usize = 10_268;
 
 /// What a plan comes to.
 #[derive(Clone, Copy, Debug, PartialEq, Eq)]
@@ -67,7 +67,8 @@ impl fmt::Display for Outcome {
 /// Runs `plan` and writes its report at the front of `report`.
 ///
 /// A refused plan leaves every byte of `report` as it was, and the bytes past a report stay. A step that is refused does not refuse the plan: its
-/// code is in the report. A plan that would be refused for several reasons is refused for the first of malformed, invalid, no room.
+/// code and its cause are in the report, which [`results`](crate::results) takes apart. A plan that would be refused for several reasons is refused
+/// for the first of malformed, invalid, no room.
 ///
 /// ```
 /// use urrezkalu::{run_plan, Outcome};
@@ -80,7 +81,7 @@ impl fmt::Display for Outcome {
 /// its file's group being 107:
 ///
 /// ```
-/// use urrezkalu::{read_sheet, run_plan, Outcome, SheetReading, LONGEST_REPORT};
+/// use urrezkalu::{read_sheet, results, run_plan, Outcome, SheetReading, LONGEST_REPORT};
 ///
 /// let plan = b"ruid=1000\neuid=1000\nsuid=1000\nfsuid=1000\nrgid=1000\negid=1000\nsgid=1000\nfsgid=1000\n\
 ///     permitted=0000000000000000\ninheritable=0000000000000000\neffective=0000000000000000\n\
@@ -89,8 +90,9 @@ impl fmt::Display for Outcome {
 /// let mut report = [0; LONGEST_REPORT];
 /// let Outcome::Report { length } = run_plan(plan, &mut report) else { panic!("the plan is refused") };
 ///
-/// let results = "code=0\nvalue=0000000000000000\n".len();
-/// let SheetReading::Sheet(after) = read_sheet(&report[results..length]) else { panic!("a report ends with a sheet") };
+/// let mut results = results(&report[..length]);
+/// assert_eq!(results.by_ref().count(), 1);
+/// let SheetReading::Sheet(after) = read_sheet(results.rest()) else { panic!("a report ends with a sheet") };
 /// assert_eq!([after.rgid, after.egid, after.sgid, after.fsgid], [1000, 107, 107, 107]);
 /// ```
 ///
@@ -121,8 +123,8 @@ mod tests {
     // The paper's numbers, multiplied out: code times 4294967296 plus line or length.
     #[test]
     fn every_code_is_taken_apart() {
-        assert_eq!(outcome(266), Outcome::Report { length: 266 });
-        assert_eq!(outcome(8_220), Outcome::Report { length: LONGEST_REPORT });
+        assert_eq!(outcome(274), Outcome::Report { length: 274 });
+        assert_eq!(outcome(10_268), Outcome::Report { length: LONGEST_REPORT });
         assert_eq!(outcome(4_294_967_295), Outcome::Report { length: 4_294_967_295 });
         assert_eq!(outcome(300_647_710_721), Outcome::Malformed { line: 1 });
         assert_eq!(outcome(300_647_712_016), Outcome::Malformed { line: 1_296 });
@@ -145,7 +147,7 @@ mod tests {
 
     #[test]
     fn codes_are_the_papers() {
-        assert_eq!(Outcome::Report { length: 266 }.code(), 0);
+        assert_eq!(Outcome::Report { length: 274 }.code(), 0);
         assert_eq!(Outcome::NoRoom.code(), 28);
         assert_eq!(Outcome::Malformed { line: 1 }.code(), 70);
         assert_eq!(Outcome::Invalid.code(), 72);

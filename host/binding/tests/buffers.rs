@@ -35,7 +35,7 @@ fn room_exactly_right_one_short_and_every_other() {
 #[test]
 fn a_refused_plan_changes_no_byte() {
     let broken = read("broken.plan");
-    for room in [0, 1, 265, 266, LONGEST_REPORT, LONGEST_REPORT + 1] {
+    for room in [0, 1, 273, 274, LONGEST_REPORT, LONGEST_REPORT + 1] {
         refused(&broken, room, Outcome::Malformed { line: 24 });
         refused(INVALID_START.as_bytes(), room, Outcome::Invalid);
     }
@@ -69,7 +69,7 @@ fn the_longest_plan_has_the_longest_report() {
     assert_eq!(plan.len(), LONGEST_PLAN);
     let (outcome, buffer) = run(&plan, LONGEST_REPORT);
     assert_eq!(outcome, Outcome::Report { length: LONGEST_REPORT });
-    let steps = "code=22\nvalue=0000000000000000\n".repeat(256);
+    let steps = "code=22\nvalue=0000000000000000\ncause=0\n".repeat(256);
     let sheet_length = LONGEST_REPORT - steps.len();
     assert_eq!(buffer, [steps.as_bytes(), &plan[..sheet_length]].concat());
     refused(&plan, LONGEST_REPORT - 1, Outcome::NoRoom);
@@ -86,7 +86,7 @@ fn what_stands_after_one_byte_too_many_decides_nothing() {
 
 #[test]
 fn threads_do_not_disturb_each_other() {
-    let accepted = (read("case-2.plan"), Outcome::Report { length: 266 });
+    let accepted = (read("case-2.plan"), Outcome::Report { length: 274 });
     let refused = (read("broken.plan"), Outcome::Malformed { line: 24 });
     let longest = (longest_plan(), Outcome::Report { length: LONGEST_REPORT });
     std::thread::scope(|threads| {

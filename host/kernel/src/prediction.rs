@@ -2,7 +2,7 @@
 
 use crate::credentials::{Credentials, Outcome, Thread};
 use crate::step::Step;
-use urrezkalu::{run_plan, LONGEST_REPORT};
+use urrezkalu::{results, run_plan, LONGEST_REPORT};
 
 /// The codes and values of a plan's steps, and the credentials after the last.
 #[derive(Debug, PartialEq, Eq)]
@@ -27,15 +27,13 @@ pub fn report(start: &Credentials, steps: &[Step]) -> Report {
     read_report(written, steps.len()).unwrap_or_else(|| panic!("no report:\n{written}"))
 }
 
+// A refusal's cause is the paper's, and there is nothing of the kernel's to lay beside it.
 fn read_report(written: &str, steps: usize) -> Option<Report> {
-    let mut lines = written.lines();
-    let mut results = Vec::with_capacity(steps);
-    for _ in 0..steps {
-        let code = lines.next()?.strip_prefix("code=")?.parse().ok()?;
-        let value = u64::from_str_radix(lines.next()?.strip_prefix("value=")?, 16).ok()?;
-        results.push((code, value));
-    }
-    Some(Report { results, last: Credentials::from_lines(&mut lines)? })
+    let mut told = results(written.as_bytes());
+    let results: Vec<(u32, u64)> = told.by_ref().map(|result| (result.code(), result.value())).collect();
+    let mut lines = std::str::from_utf8(told.rest()).ok()?.lines();
+    let last = Credentials::from_lines(&mut lines)?;
+    (results.len() == steps).then_some(Report { results, last })
 }
 
 /// What one step comes to from `before`, by the proved library.
