@@ -11,4 +11,5 @@ pub mod OneLaunch
 pub mod Demand3
 pub mod Flags
 pub mod LaunchedAmbient
+pub mod EachCause
 pub mod WhyRefused

@@ -34,6 +34,7 @@ use Rattle.rules.specs.declared.Decoded.the-variants.{Known, Unknown}
 use Rattle.rules.specs.declared.NewIds.{NewIds}
 use Rattle.rules.specs.declared.NewIds.the-variants.{Allowed, NotAllowed}
 use Rattle.rules.proofs.Conditions.{cond-cases}
+use Rattle.rules.proofs.EachCause.{each-occurs}
 
 -- ---- the lowest of ordered tests
 
@@ -234,5 +235,6 @@ why-refused =
       refused-if = λ c x. step-told c x .refused;
       lowest-wins = λ c x e. step-told c x .lowest-number;
       own-causes = λ c x e. step-told c x .among (eq-eqb _ 1 e);
+      each-occurs = each-occurs;
       no-other = λ c x e. no-other (answer c (x .number) (x .a) (x .b) (x .c) (x .attribute)) e;
     }

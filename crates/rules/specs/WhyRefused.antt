@@ -8,6 +8,7 @@ use lib.Dec.{eqb, ltb}
 use lib.ListN.{length}
 use Rattle.capabilities.specs.Sets.{lacks}
 use Rattle.capabilities.specs.Header.{CAP-SETPCAP}
+use Rattle.attribute.specs.Words.{Bytes}
 use Rattle.attribute.specs.declared.Reading.{Reading}
 use Rattle.attribute.specs.declared.Reading.the-variants.{File, Unreadable}
 use Rattle.credentials.specs.Validity.{valid}
@@ -119,14 +120,27 @@ causesOf number =
     (cond (eqb number 5) (6 ∷ 7 ∷ [])
     (cond (eqb number 9) (1 ∷ 8 ∷ 9 ∷ [])
     (cond (eqb number 11) (9 ∷ [])
-    (cond (eqb number 15 || eqb number 16 || eqb number 17) (10 ∷ [])
-    (cond (eqb number 19 || eqb number 20 || eqb number 21) (10 ∷ [])
-    [])))))))
+    (cond (eqb number 15) (10 ∷ [])
+    (cond (eqb number 16) (10 ∷ [])
+    (cond (eqb number 17) (10 ∷ [])
+    (cond (eqb number 19) (10 ∷ [])
+    (cond (eqb number 20) (10 ∷ [])
+    (cond (eqb number 21) (10 ∷ [])
+    [])))))))))))
 
 -- a number is among others
 unfoldable pub isAmong : ℕ → List ℕ → Bool
 isAmong n [] = false
 isAmong n (m ∷ ms) = eqb n m || isAmong n ms
+
+-- the call of a number has a cause, from some valid credentials with some operands and attribute bytes
+pub record Occurs (number n : ℕ) : Type 0 where
+  pub start : Credentials
+  pub starts-valid : valid start ≡ true
+  pub step : Step
+  pub is-call : step .number ≡ number
+  pub bytes : Bytes (step .attribute)
+  pub has-cause : result start step .cause ≡ n
 
 -- of every credentials, valid or not, and every call, its operands and its attribute
 pub record WhyRefused : Type 0 where
@@ -136,5 +150,7 @@ pub record WhyRefused : Type 0 where
   pub lowest-wins : (c : Credentials) (x : Step) → result c x .code ≡ 1 → result c x .cause ≡ lowest (failing (asked c x))
   -- and one of the call's own: the ID calls give 10 and capset 2 to 5, call 11 gives 9, and none but calls 3 and 9 give 1
   pub own-causes : (c : Credentials) (x : Step) → result c x .code ≡ 1 → isAmong (result c x .cause) (causesOf (x .number)) ≡ true
+  -- each of these is given by some call
+  pub each-occurs : (number n : ℕ) → isAmong n (causesOf number) ≡ true → Occurs number n
   -- every other answer has cause 0
   pub no-other : (c : Credentials) (x : Step) → eqb (result c x .code) 1 ≡ false → result c x .cause ≡ 0
