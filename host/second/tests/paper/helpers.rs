@@ -58,10 +58,13 @@ pub const NAMES: [&str; 41] = [
 ];
 
 pub const NOROOT: u8 = 0x01;
+pub const NOROOT_LOCKED: u8 = 0x02;
 pub const NO_SETUID_FIXUP: u8 = 0x04;
+pub const NO_SETUID_FIXUP_LOCKED: u8 = 0x08;
 pub const KEEP_CAPS: u8 = 0x10;
 pub const KEEP_CAPS_LOCKED: u8 = 0x20;
 pub const NO_CAP_AMBIENT_RAISE: u8 = 0x40;
+pub const NO_CAP_AMBIENT_RAISE_LOCKED: u8 = 0x80;
 
 pub const SET_USER_ID: u64 = 1;
 pub const SET_GROUP_ID: u64 = 2;

@@ -5,6 +5,8 @@ mod bench;
 mod buffer;
 mod calls;
 mod causes;
+mod causes_in_plans;
+mod causes_together;
 mod faults;
 mod group_ids;
 mod helpers;
