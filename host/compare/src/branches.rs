@@ -10,6 +10,7 @@ mod ambient;
 mod attribute;
 mod bounding;
 mod capset;
+mod causes;
 mod family;
 mod fixups;
 mod group_ids;
@@ -105,6 +106,7 @@ impl Table {
         calls.add(&Family::Groups.calls(), ids::rows(Family::Groups));
         calls.add(&Family::Groups.calls(), group_ids::rows());
         for call in 1..=CALLS {
+            calls.add(&[call], causes::rows(call));
             calls.add(&[call], operands::rows_of_call(call));
         }
         calls.add(&[1], operands::rows_of_owner_and_group());

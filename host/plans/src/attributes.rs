@@ -106,7 +106,7 @@ fn far_too_long(random: &mut Random, guess: &Credentials) -> Vec<u8> {
 // An attribute that cannot be read, or (among random bytes) hardly ever can.
 fn unreadable(random: &mut Random, guess: &Credentials, longest: usize) -> Vec<u8> {
     let mut bytes = if random.one_in(3) { version_1(&file(random, guess)) } else { version_2(&file(random, guess)) };
-    match random.below(11) {
+    match random.below(12) {
         // A good front, cut or lengthened with zeros.
         0..=3 => bytes.resize(random.below(longest + 1), 0),
         // The other version's length.
@@ -116,12 +116,12 @@ fn unreadable(random: &mut Random, guess: &Credentials, longest: usize) -> Vec<u
         6 => bytes[3] = random.pick(&[0, 0, 3, 3, 4, 5, 0x12, 0x82, 0xff]),
         7 => bytes[3] = random.byte(),
         // Other bits of the first word: 1 to 23.
-        8 => {
+        8 | 9 => {
             let bit = 1 + random.below(23);
             bytes[bit / 8] ^= 1 << (bit % 8);
         }
         // A bit above 40 in the permitted or the inheritable set; version 1 has no room for one.
-        9 => {
+        10 => {
             bytes.resize(20, 0);
             bytes[3] = 2;
             let above = sets::bit_above_40(random).trailing_zeros() as usize - 32;

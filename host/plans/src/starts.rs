@@ -213,14 +213,15 @@ fn bounding(random: &mut Random) -> u64 {
     }
 }
 
-/// Securebits: none, one flag with or without its lock, a lock alone, or any of the 256 values.
+/// Securebits: none, one flag with or without its lock, a lock alone, all the locks, or any of the 256 values.
 pub(crate) fn securebits(random: &mut Random) -> u8 {
     let flag = random.pick(&[1, 4, 4, 16, 16, 64]);
-    match random.below(10) {
+    match random.below(11) {
         0..=2 => 0,
         3..=5 => flag,
         6 | 7 => flag * 3,
         8 => flag * 2,
+        9 => random.byte() | 0xaa,
         _ => random.byte(),
     }
 }

@@ -1,33 +1,12 @@
 //! Steps: each call with operands that are about as often allowed as refused.
 
+mod spoiled;
+
 use crate::attributes;
 use crate::random::Random;
 use crate::sets;
 use crate::starts::{self, Family, NO_ID};
 use second::{Credentials, Step};
-
-/// Numbers just in and just out of the ranges that operands have.
-const EDGES: [u64; 19] = [
-    0,
-    1,
-    2,
-    31,
-    32,
-    40,
-    41,
-    63,
-    64,
-    255,
-    256,
-    4_294_967_294,
-    4_294_967_295,
-    4_294_967_296,
-    4_294_968_296,
-    1 << 40,
-    1 << 41,
-    1 << 63,
-    u64::MAX,
-];
 
 /// The calls, those with more rules more often. Call 13 is rare, for it leaves little to try afterwards.
 const CALLS: [u8; 88] = [
@@ -36,8 +15,9 @@ const CALLS: [u8; 88] = [
     18, 18, 19, 19, 19, 20, 20, 20, 20, 20, 21, 21, 21, 21, 21, 21, 22, 22, 22, 22, 22,
 ];
 
-/// The four flags of securebits, without their locks.
+/// The four flags of securebits, without their locks; and the locks.
 const FLAGS: u8 = 1 | 4 | 16 | 64;
+const LOCKS: u8 = FLAGS << 1;
 
 /// Makes steps one after the other. It guesses what the thread holds, to choose operands near to that; it does not know the rules.
 pub(crate) struct Maker {
@@ -53,7 +33,7 @@ impl Maker {
     pub(crate) fn any(&mut self, random: &mut Random) -> Step {
         let mut step = self.decent(random);
         if random.one_in(8) {
-            spoil(random, &mut step, &self.guess);
+            spoiled::spoil(random, &mut step, &self.guess);
         }
         step
     }
@@ -106,11 +86,18 @@ impl Maker {
         }
     }
 
-    // P and E mostly shrink; I is taken about what the thread has, and about what it may take from P and from B.
+    // P and E mostly shrink; I is taken about what the thread has, and about what it may take from P and from B. Now and then each has more than it
+    // may: I what only P has, P and E one more.
     fn capset(&self, random: &mut Random, step: &mut Step) {
         let Credentials { permitted, inheritable, effective, bounding, .. } = self.guess;
+        if random.one_in(12) {
+            step.a = permitted | sets::single(random);
+            step.b = inheritable | permitted & !bounding;
+            step.c = step.a | sets::single(random);
+            return;
+        }
         step.a = if random.one_in(5) { sets::near(random, permitted) } else { sets::within(random, permitted) };
-        step.b = match random.below(6) {
+        step.b = match random.below(7) {
             0 => inheritable,
             1 => sets::within(random, inheritable | permitted),
             2 => sets::within(random, inheritable | bounding),
@@ -119,6 +106,7 @@ impl Maker {
                 sets::near(random, inheritable | part)
             }
             4 => sets::near(random, inheritable),
+            5 => inheritable | permitted & !bounding,
             _ => inheritable | sets::within(random, permitted & bounding),
         };
         step.c = match random.below(6) {
@@ -138,15 +126,17 @@ impl Maker {
         }
     }
 
-    // The same, one bit turned over, the locked flags turned over, a flag set together with its lock, or any value.
+    // The same, one bit turned over, the locked flags turned over, one lock undone and one locked flag turned over, a flag set together with its
+    // lock, or any value.
     fn securebits(&self, random: &mut Random) -> u8 {
         let now = self.guess.securebits;
-        match random.below(7) {
+        match random.below(10) {
             0 => now,
             1 | 2 => now ^ 1 << random.below(8),
             3 => now ^ (now >> 1 & FLAGS),
             4 => now | random.pick(&[3, 12, 48, 192]),
             5 => now | starts::securebits(random),
+            6..=8 if now & LOCKS != 0 => (now & !set_lock(random, now)) ^ (set_lock(random, now) >> 1),
             _ => random.byte(),
         }
     }
@@ -227,34 +217,16 @@ fn set_unless_none(id: &mut u32, operand: u64) {
     }
 }
 
+// One of the locks that are set in the securebits.
+fn set_lock(random: &mut Random, securebits: u8) -> u8 {
+    1 << sets::member(random, u64::from(securebits & LOCKS))
+}
+
 fn member_or_any(random: &mut Random, of: u64) -> u64 {
     if random.one_in(2) {
         sets::member(random, of)
     } else {
         sets::capability(random)
-    }
-}
-
-// A number that is no call, those next to a call more often.
-fn unknown_call(random: &mut Random) -> u8 {
-    match random.below(8) {
-        0 | 1 => 0,
-        2 => 23,
-        3 => 99,
-        _ => 23 + random.below(77) as u8,
-    }
-}
-
-// A number about the end of the range that an operand of a call has.
-fn end_of_range(random: &mut Random, call: u8, place: usize) -> u64 {
-    match call {
-        1 if place == 1 => random.pick(&[31, 32]),
-        2 => sets::bit_above_40(random),
-        3..=7 => random.pick(&[40, 41, 63, 64]),
-        9 => random.pick(&[255, 256]),
-        11 | 13 => random.pick(&[0, 1, 2]),
-        1 | 15..=22 => random.pick(&[4_294_967_294, 4_294_967_295, 4_294_967_296]),
-        _ => random.pick(&EDGES),
     }
 }
 
@@ -273,31 +245,5 @@ fn operand_count(call: u8) -> usize {
         1 | 2 | 17 | 21 => 3,
         16 | 20 => 2,
         _ => 1,
-    }
-}
-
-fn operand(step: &mut Step, place: usize) -> &mut u64 {
-    match place {
-        0 => &mut step.a,
-        1 => &mut step.b,
-        _ => &mut step.c,
-    }
-}
-
-// Makes one thing of the step wrong, or leaves it just in range.
-fn spoil(random: &mut Random, step: &mut Step, guess: &Credentials) {
-    match random.below(12) {
-        0..=4 => {
-            let place = random.below(operand_count(step.call));
-            *operand(step, place) = end_of_range(random, step.call, place);
-        }
-        5..=7 => *operand(step, random.below(3)) = random.pick(&EDGES),
-        8 => *operand(step, random.below(3)) |= sets::bit_above_40(random),
-        9 | 10 => match random.below(3) {
-            0 => step.attr = attributes::good(random, guess),
-            1 => step.attr = vec![0],
-            _ => step.attr = attributes::any(random, guess),
-        },
-        _ => step.call = unknown_call(random),
     }
 }

@@ -29,9 +29,9 @@ pub fn write_step(text: &mut Vec<u8>, step: &Step) {
     text.push(b'\n');
 }
 
-/// Adds the two lines of a report that a step has.
-pub fn write_result(text: &mut Vec<u8>, code: u32, value: u64) {
-    write!(text, "code={code}\nvalue={value:016x}\n").expect(WRITES);
+/// Adds the three lines of a report that a step has.
+pub fn write_result(text: &mut Vec<u8>, code: u32, value: u64, cause: u32) {
+    write!(text, "code={code}\nvalue={value:016x}\ncause={cause}\n").expect(WRITES);
 }
 
 impl Plan {
@@ -77,6 +77,16 @@ mod tests {
             permitted=0000000000002000\ninheritable=0000000000002000\neffective=0000000000002000\n\
             bounding=000001ffffffffff\nambient=0000000000002000\nsecurebits=00\nnnp=0\n\
             call=1\na=0000000000000000\nb=0000000000000000\nc=0000000000000000\nattr=\n";
+        assert_eq!(text, expected.as_bytes());
+    }
+
+    // The first lines of case 2's report, with the cause that "Why it was refused" puts after the value; and a refusal with the longest cause.
+    #[test]
+    fn results_are_three_lines() {
+        let mut text = Vec::new();
+        write_result(&mut text, 0, 0, 0);
+        write_result(&mut text, 1, 0, 10);
+        let expected = "code=0\nvalue=0000000000000000\ncause=0\ncode=1\nvalue=0000000000000000\ncause=10\n";
         assert_eq!(text, expected.as_bytes());
     }
 

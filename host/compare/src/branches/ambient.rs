@@ -3,12 +3,22 @@
 use super::moment::{asked, done, refused, single, NO_CAP_AMBIENT_RAISE};
 use super::{Moment, Row};
 
-fn is_in(m: &Moment, set: u64) -> bool {
+/// Whether the call's capability is in the set.
+pub(super) fn is_in(m: &Moment, set: u64) -> bool {
     single(m.step.a) & set != 0
 }
 
+// The two tests of a raise, true where they refuse.
+pub(super) fn is_not_in_both(m: &Moment) -> bool {
+    !is_in(m, m.before.permitted & m.before.inheritable)
+}
+
+pub(super) fn is_forbidden(m: &Moment) -> bool {
+    m.secure(NO_CAP_AMBIENT_RAISE)
+}
+
 fn raises(m: &Moment) -> bool {
-    m.calls(5) && is_in(m, m.before.permitted & m.before.inheritable) && !m.secure(NO_CAP_AMBIENT_RAISE)
+    m.calls(5) && !is_not_in_both(m) && !is_forbidden(m)
 }
 
 fn only_ambient_is(m: &Moment, ambient: u64) -> bool {
@@ -34,17 +44,17 @@ pub fn rows() -> Vec<Row<Moment>> {
         done("Ambient raise: not in B", |m| raises(m) && !is_in(m, m.before.bounding), is_raised),
         done("Ambient raise: NO_CAP_AMBIENT_RAISE locked clear", |m| raises(m) && m.secure(128), is_raised),
         done("Ambient raise: under no-new-privs", |m| raises(m) && m.before.nnp, is_raised),
-        refused("Ambient raise: refused, in P and not in I", |m| {
-            m.calls(5) && is_in(m, m.before.permitted & !m.before.inheritable) && !m.secure(NO_CAP_AMBIENT_RAISE)
+        refused("Ambient raise: refused, in P and not in I", 6, |m| {
+            m.calls(5) && is_in(m, m.before.permitted & !m.before.inheritable) && !is_forbidden(m)
         }),
-        refused("Ambient raise: refused, in I and not in P", |m| {
-            m.calls(5) && is_in(m, m.before.inheritable & !m.before.permitted) && !m.secure(NO_CAP_AMBIENT_RAISE)
+        refused("Ambient raise: refused, in I and not in P", 6, |m| {
+            m.calls(5) && is_in(m, m.before.inheritable & !m.before.permitted) && !is_forbidden(m)
         }),
-        refused("Ambient raise: refused by NO_CAP_AMBIENT_RAISE", |m| {
-            m.calls(5) && is_in(m, m.before.permitted & m.before.inheritable) && m.secure(NO_CAP_AMBIENT_RAISE)
+        refused("Ambient raise: refused by NO_CAP_AMBIENT_RAISE", 7, |m| {
+            m.calls(5) && !is_not_in_both(m) && is_forbidden(m)
         }),
-        refused("Ambient raise: refused by NO_CAP_AMBIENT_RAISE though it is there", |m| {
-            m.calls(5) && is_in(m, m.before.ambient) && m.secure(NO_CAP_AMBIENT_RAISE)
+        refused("Ambient raise: refused by NO_CAP_AMBIENT_RAISE though it is there", 7, |m| {
+            m.calls(5) && is_in(m, m.before.ambient) && is_forbidden(m)
         }),
         done("Ambient lower: done", |m| m.calls(6) && is_in(m, m.before.ambient), is_lowered),
         done("Ambient lower: of what is gone", |m| m.calls(6) && !is_in(m, m.before.ambient), Moment::is_unchanged),

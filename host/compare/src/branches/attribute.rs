@@ -24,11 +24,16 @@ pub fn read(bytes: &[u8]) -> Reading {
         return Reading::None;
     }
     let is_readable = !has_wrong_length(bytes) && !has_other_bits(bytes) && !has_bits_above_40(bytes);
-    if !is_readable {
-        return Reading::Unreadable;
+    match taken_anyway(bytes) {
+        Some(file) if is_readable => Reading::File(file),
+        _ => Reading::Unreadable,
     }
+}
+
+/// What 12 or 20 bytes say, readable or not.
+pub fn taken_anyway(bytes: &[u8]) -> Option<File> {
     let high = |at| if bytes.len() == 20 { u64::from(word(bytes, at)) << 32 } else { 0 };
-    Reading::File(File {
+    matches!(bytes.len(), 12 | 20).then(|| File {
         permitted: u64::from(word(bytes, 1)) | high(3),
         inheritable: u64::from(word(bytes, 2)) | high(4),
         effective: bytes[0] & 1 == 1,
@@ -44,15 +49,15 @@ fn revision(bytes: &[u8]) -> Option<u8> {
 }
 
 // Only revision 1 with 12 bytes and revision 2 with 20 are read.
-fn has_wrong_length(bytes: &[u8]) -> bool {
+pub(super) fn has_wrong_length(bytes: &[u8]) -> bool {
     !matches!((revision(bytes), bytes.len()), (Some(1), 12) | (Some(2), 20))
 }
 
-fn has_other_bits(bytes: &[u8]) -> bool {
+pub(super) fn has_other_bits(bytes: &[u8]) -> bool {
     bytes.len() >= 4 && word(bytes, 0) & 0x00ff_fffe != 0
 }
 
-fn has_bits_above_40(bytes: &[u8]) -> bool {
+pub(super) fn has_bits_above_40(bytes: &[u8]) -> bool {
     bytes.len() == 20 && (word(bytes, 3) | word(bytes, 4)) >> 9 != 0
 }
 
@@ -106,7 +111,7 @@ pub fn rows() -> Vec<Row<Moment>> {
         let is_read = move |m: &Moment| {
             m.launch.as_ref().is_some_and(|launch| launch.file.is_some()) && m.step.attr.len() == length
         };
-        rows.push(Row::new(name, is_read, |m| matches!(m.answer.code, 0 | 1)));
+        rows.push(Row::new(name, is_read, |m| m.is_done() || m.is_refused_for(11)));
     }
     rows
 }

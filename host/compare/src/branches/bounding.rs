@@ -1,6 +1,6 @@
 //! Calls 3 and 4: the bounding set.
 
-use super::moment::{asked, done, refused, single, CAP_SETPCAP};
+use super::moment::{asked, done, lacks_setpcap, refused, single, CAP_SETPCAP};
 use super::{Moment, Row};
 
 // Whether the call's capability is in the set.
@@ -9,7 +9,7 @@ fn names_one_of(m: &Moment, set: u64) -> bool {
 }
 
 fn drops(m: &Moment) -> bool {
-    m.calls(3) && m.has(CAP_SETPCAP)
+    m.calls(3) && !lacks_setpcap(m)
 }
 
 fn only_bounding_changes(m: &Moment) -> bool {
@@ -43,11 +43,11 @@ pub fn rows() -> Vec<Row<Moment>> {
             Moment::is_unchanged,
         ),
         done("Bounding drop: capability 40", |m| drops(m) && m.step.a == 40, only_bounding_changes),
-        refused("Bounding drop: refused without SETPCAP", |m| {
-            m.calls(3) && !m.has(CAP_SETPCAP) && m.before.permitted & CAP_SETPCAP == 0
+        refused("Bounding drop: refused without SETPCAP", 1, |m| {
+            m.calls(3) && lacks_setpcap(m) && m.before.permitted & CAP_SETPCAP == 0
         }),
-        refused("Bounding drop: refused, SETPCAP permitted but not in effect", |m| {
-            m.calls(3) && !m.has(CAP_SETPCAP) && m.before.permitted & CAP_SETPCAP != 0
+        refused("Bounding drop: refused, SETPCAP permitted but not in effect", 1, |m| {
+            m.calls(3) && lacks_setpcap(m) && m.before.permitted & CAP_SETPCAP != 0
         }),
         asked("Bounding read: 1", 1, |m| m.calls(4) && names_one_of(m, m.before.bounding)),
         asked("Bounding read: 0", 0, |m| m.calls(4) && !names_one_of(m, m.before.bounding)),

@@ -1,23 +1,28 @@
-//! Call 2: the four refusals in their order, and what is left of the ambient set.
+//! Call 2: the four refusals, and what is left of the ambient set. What comes back where several tests refuse at once is in `causes`.
 
-use super::moment::{done, is_within, refused, CAP_SETPCAP};
+use super::moment::{done, is_within, lacks_setpcap, refused, CAP_SETPCAP};
 use super::{Moment, Row};
 use second::Credentials;
 
-// The four tests, true where they refuse.
-fn takes_beyond_permitted(m: &Moment) -> bool {
-    !m.has(CAP_SETPCAP) && !is_within(m.step.b, m.before.inheritable | m.before.permitted)
+/// Whether the new I is not within I and P together, which SETPCAP allows.
+pub(super) fn is_beyond_permitted(m: &Moment) -> bool {
+    !is_within(m.step.b, m.before.inheritable | m.before.permitted)
 }
 
-fn takes_beyond_bounding(m: &Moment) -> bool {
+// The four tests, true where they refuse.
+pub(super) fn takes_beyond_permitted(m: &Moment) -> bool {
+    lacks_setpcap(m) && is_beyond_permitted(m)
+}
+
+pub(super) fn takes_beyond_bounding(m: &Moment) -> bool {
     !is_within(m.step.b, m.before.inheritable | m.before.bounding)
 }
 
-fn permits_more(m: &Moment) -> bool {
+pub(super) fn permits_more(m: &Moment) -> bool {
     !is_within(m.step.a, m.before.permitted)
 }
 
-fn effects_more(m: &Moment) -> bool {
+pub(super) fn effects_more(m: &Moment) -> bool {
     !is_within(m.step.c, m.step.a)
 }
 
@@ -40,25 +45,22 @@ fn sets_are_those_given(m: &Moment) -> bool {
 /// The rows of capset.
 pub fn rows() -> Vec<Row<Moment>> {
     vec![
-        refused("capset: refused, new I beyond I and P without SETPCAP", |m| only(m, 0)),
-        refused("capset: refused, SETPCAP permitted but not in effect", |m| {
+        refused("capset: refused, new I beyond I and P without SETPCAP", 2, |m| only(m, 0)),
+        refused("capset: refused, SETPCAP permitted but not in effect", 2, |m| {
             only(m, 0) && m.before.permitted & CAP_SETPCAP != 0
         }),
-        refused("capset: refused, SETPCAP gained by the call itself is no help", |m| {
+        refused("capset: refused, SETPCAP gained by the call itself is no help", 2, |m| {
             only(m, 0) && m.step.c & CAP_SETPCAP != 0
         }),
-        refused("capset: refused, new I beyond I and B with SETPCAP", |m| only(m, 1) && m.has(CAP_SETPCAP)),
-        refused("capset: refused, new I beyond I and B, within P, without SETPCAP", |m| {
-            only(m, 1) && !m.has(CAP_SETPCAP)
+        refused("capset: refused, new I beyond I and B with SETPCAP", 3, |m| only(m, 1) && m.has(CAP_SETPCAP)),
+        refused("capset: refused, new I beyond I and B, within P, without SETPCAP", 3, |m| {
+            only(m, 1) && lacks_setpcap(m)
         }),
-        refused("capset: refused, new P beyond P", |m| only(m, 2)),
-        refused("capset: refused, new P beyond P with SETPCAP", |m| only(m, 2) && m.has(CAP_SETPCAP)),
-        refused("capset: refused, new E beyond new P", |m| only(m, 3)),
-        refused("capset: refused, new E within old E and beyond new P", |m| {
+        refused("capset: refused, new P beyond P", 4, |m| only(m, 2)),
+        refused("capset: refused, new P beyond P with SETPCAP", 4, |m| only(m, 2) && m.has(CAP_SETPCAP)),
+        refused("capset: refused, new E beyond new P", 5, |m| only(m, 3)),
+        refused("capset: refused, new E within old E and beyond new P", 5, |m| {
             only(m, 3) && is_within(m.step.c, m.before.effective)
-        }),
-        refused("capset: refused for several reasons", |m| {
-            m.calls(2) && TESTS.iter().filter(|test| test(m)).count() > 1
         }),
         done("capset: done, sets as given", none_refuses, sets_are_those_given),
         done(
@@ -72,12 +74,12 @@ pub fn rows() -> Vec<Row<Moment>> {
         ),
         done(
             "capset: new I beyond I and P, by SETPCAP",
-            |m| none_refuses(m) && !is_within(m.step.b, m.before.inheritable | m.before.permitted),
+            |m| none_refuses(m) && is_beyond_permitted(m),
             sets_are_those_given,
         ),
         done(
             "capset: new I from P without SETPCAP",
-            |m| none_refuses(m) && !m.has(CAP_SETPCAP) && !is_within(m.step.b, m.before.inheritable),
+            |m| none_refuses(m) && lacks_setpcap(m) && !is_within(m.step.b, m.before.inheritable),
             sets_are_those_given,
         ),
         done(

@@ -179,7 +179,7 @@ mod tests {
             nnp: false,
         };
         let [a, b, c] = operands;
-        let answer = Answer { code: 0, value: 0, after: before.clone() };
+        let answer = Answer { code: 0, value: 0, cause: 0, after: before.clone() };
         Moment::new(before, Step { call, a, b, c, attr: Vec::new() }, answer)
     }
 

@@ -37,7 +37,7 @@ fn filesystem_goes(m: &Moment, from_0: bool, to_0: bool) -> bool {
 
 fn sets_stay(m: &Moment) -> bool {
     let (before, after) = (&m.before, &m.answer.after);
-    m.answer.code == 0
+    m.is_accepted()
         && (before.permitted, before.inheritable, before.effective)
             == (after.permitted, after.inheritable, after.effective)
         && (before.bounding, before.ambient) == (after.bounding, after.ambient)
@@ -57,7 +57,10 @@ fn rows_of_rule_1(call: u8, name: &str) -> Vec<Row<Moment>> {
         Row::new(
             format!("Fix-up 1: {name}, I and B stay"),
             move |m| runs(m) && m.before.inheritable != m.before.bounding,
-            |m| (m.answer.after.inheritable, m.answer.after.bounding) == (m.before.inheritable, m.before.bounding),
+            |m| {
+                let after = &m.answer.after;
+                m.is_done() && (after.inheritable, after.bounding) == (m.before.inheritable, m.before.bounding)
+            },
         ),
         Row::new(
             format!("Fix-up 1: {name}, KEEP_CAPS keeps P and clears A"),
@@ -151,7 +154,7 @@ fn rows_of_rule_4() -> Vec<Row<Moment>> {
     let only_effective_is = |m: &Moment, set: u64| {
         let after = &m.answer.after;
         let others_stay = (after.permitted, after.ambient) == (m.before.permitted, m.before.ambient);
-        m.answer.code == 0 && others_stay && after.effective == set
+        m.is_accepted() && others_stay && after.effective == set
     };
     let lowered = move |m: &Moment| only_effective_is(m, m.before.effective & !FILESYSTEM_SET);
     let raised = move |m: &Moment| only_effective_is(m, m.before.effective | (m.before.permitted & FILESYSTEM_SET));

@@ -26,7 +26,7 @@ fn row(call: u8, name: &str, what: &str, when: impl Fn(&Moment) -> bool + Send +
     Row::new(
         format!("{name}: {what}"),
         move |m: &Moment| m.calls(call) && changes(m) && when(m),
-        |m: &Moment| m.answer.code == 0 && GROUPS.are_set(m),
+        |m: &Moment| m.is_accepted() && GROUPS.are_set(m),
     )
 }
 

@@ -77,8 +77,8 @@ impl Request<'_> {
     }
 }
 
-// Whether the family's capability is asked for, and missing. The last of the calls then says nothing and does nothing.
-fn is_denied(family: Family, m: &Moment) -> bool {
+/// Whether an ID is given that is not among those allowed. The last of the calls then says nothing and does nothing.
+pub(super) fn is_denied(family: Family, m: &Moment) -> bool {
     let is_silent = m.step.call == family.calls()[SETFSUID];
     if is_silent {
         !m.has(family.capability()) && m.step.a != LEAVE && !family.before(m).contains(&m.step.a)
@@ -114,7 +114,7 @@ fn sets(
     )
 }
 
-// A row of a call that is not allowed: it is refused with 1, but for the last, which answers as if it were done.
+// A row of a call that is not allowed: it is refused for cause 10, but for the last, which answers as if it were done.
 fn denies(
     family: Family,
     call: usize,
@@ -130,7 +130,7 @@ fn denies(
             if is_silent {
                 m.is_answered(value(family, call, m)) && m.is_unchanged()
             } else {
-                m.is_refused(1)
+                m.is_refused_for(10)
             }
         },
     )

@@ -21,7 +21,7 @@ const NO_FILE_CAPS: u64 = 16;
 
 /// Why set-ID bits or an attribute are ignored.
 #[derive(Clone, Copy, PartialEq, Eq)]
-pub enum Cause {
+pub enum Reason {
     NoNewPrivs,
     Nosuid,
     Traced,
@@ -30,7 +30,7 @@ pub enum Cause {
 
 /// What a launch goes by: told from the credentials before it and its operands.
 pub struct Launch {
-    causes: Vec<Cause>,
+    reasons: Vec<Reason>,
     set_user_id: bool,
     set_group_id: bool,
     owner: u32,
@@ -54,13 +54,13 @@ impl Launch {
     /// The launch of a step with call 1 and operands in range.
     pub fn of(before: &Credentials, step: &Step) -> Launch {
         let flags = [
-            (Cause::NoNewPrivs, before.nnp),
-            (Cause::Nosuid, step.b & NOSUID != 0),
-            (Cause::Traced, step.b & TRACED != 0),
-            (Cause::NoFileCaps, step.b & NO_FILE_CAPS != 0),
+            (Reason::NoNewPrivs, before.nnp),
+            (Reason::Nosuid, step.b & NOSUID != 0),
+            (Reason::Traced, step.b & TRACED != 0),
+            (Reason::NoFileCaps, step.b & NO_FILE_CAPS != 0),
         ];
         let mut launch = Launch {
-            causes: flags.into_iter().filter(|(_, given)| *given).map(|(cause, _)| cause).collect(),
+            reasons: flags.into_iter().filter(|(_, given)| *given).map(|(reason, _)| reason).collect(),
             set_user_id: step.b & SET_USER_ID != 0,
             set_group_id: step.b & SET_GROUP_ID != 0,
             owner: step.a as u32,
@@ -75,7 +75,7 @@ impl Launch {
             noroot: before.securebits & NOROOT != 0,
         };
         if let Reading::File(file) = launch.reading {
-            launch.falls_short = !is_within(file.permitted, own_gain(before, &file));
+            launch.falls_short = falls_short_of(before, &file);
             launch.file = (!launch.attribute_is_ignored()).then_some(file);
         }
         if launch.is_in_force(Family::Users) {
@@ -88,14 +88,14 @@ impl Launch {
         launch
     }
 
-    /// a: by three of the causes.
+    /// a: by three of the reasons.
     fn set_ids_are_ignored(&self) -> bool {
-        self.causes.iter().any(|cause| *cause != Cause::NoFileCaps)
+        self.reasons.iter().any(|reason| *reason != Reason::NoFileCaps)
     }
 
-    /// a: by any of the causes.
+    /// a: by any of the reasons.
     pub fn attribute_is_ignored(&self) -> bool {
-        !self.causes.is_empty()
+        !self.reasons.is_empty()
     }
 
     /// Whether the file has the family's set-ID bit.
@@ -119,17 +119,17 @@ impl Launch {
         }
     }
 
-    fn is_only_by(&self, cause: Cause) -> bool {
-        self.causes == [cause]
+    fn is_only_by(&self, reason: Reason) -> bool {
+        self.reasons == [reason]
     }
 
     /// f: its own bit is on and its own permitted set is not all granted.
-    fn is_refused(&self) -> bool {
+    pub fn is_refused(&self) -> bool {
         self.file.is_some_and(|file| file.effective) && self.falls_short
     }
 
     /// 60 comes before that.
-    fn is_unreadable(&self) -> bool {
+    pub fn is_unreadable(&self) -> bool {
         self.reading == Reading::Unreadable && !self.attribute_is_ignored()
     }
 
@@ -145,6 +145,11 @@ impl Launch {
     fn is_privileged(&self) -> bool {
         self.file.is_some() || self.changes_effective
     }
+}
+
+/// Whether the file's own permitted set is not all granted.
+pub fn falls_short_of(before: &Credentials, file: &File) -> bool {
+    !is_within(file.permitted, own_gain(before, file))
 }
 
 /// What the file's own sets grant, not counting what c makes of them.

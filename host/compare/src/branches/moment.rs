@@ -50,19 +50,34 @@ impl Moment {
         self.before.securebits & bits != 0
     }
 
+    /// Whether the call was done, whatever it answered. What is done has no cause.
+    pub fn is_accepted(&self) -> bool {
+        self.answer.code == 0 && self.answer.cause == 0
+    }
+
     /// Whether the call was done and answered 0.
     pub fn is_done(&self) -> bool {
-        self.answer.code == 0 && self.answer.value == 0
+        self.is_answered(0)
     }
 
     /// Whether the call was done with that value.
     pub fn is_answered(&self, value: u64) -> bool {
-        self.answer.code == 0 && self.answer.value == value
+        self.is_accepted() && self.answer.value == value
     }
 
-    /// Whether the call was refused with that code, and nothing changed.
+    /// Whether the call was refused with 22, 60 or 72, which have no cause, and nothing changed.
     pub fn is_refused(&self, code: u32) -> bool {
-        self.answer.code == code && self.answer.value == 0 && self.is_unchanged()
+        code != 1 && self.answer.code == code && self.answer.cause == 0 && self.has_no_effect()
+    }
+
+    /// Whether the rules refused the call for that cause, and nothing changed.
+    pub fn is_refused_for(&self, cause: u32) -> bool {
+        self.answer.code == 1 && self.answer.cause == cause && self.has_no_effect()
+    }
+
+    /// Whether the value is 0 and nothing changed.
+    pub fn has_no_effect(&self) -> bool {
+        self.answer.value == 0 && self.is_unchanged()
     }
 
     /// Whether the credentials are those from before.
@@ -71,9 +86,13 @@ impl Moment {
     }
 }
 
-/// A row whose call is refused with 1.
-pub fn refused(name: &str, when: impl Fn(&Moment) -> bool + Send + Sync + 'static) -> Row<Moment> {
-    Row::new(name, when, |m| m.is_refused(1))
+/// A row whose call is refused with 1, for that cause.
+pub fn refused(
+    name: impl Into<String>,
+    cause: u32,
+    when: impl Fn(&Moment) -> bool + Send + Sync + 'static,
+) -> Row<Moment> {
+    Row::new(name, when, move |m| m.is_refused_for(cause))
 }
 
 /// A row whose call is done with value 0, and then the rest is true.
@@ -90,12 +109,70 @@ pub fn asked(name: &str, value: u64, when: impl Fn(&Moment) -> bool + Send + Syn
     Row::new(name, when, move |m| m.is_answered(value) && m.is_unchanged())
 }
 
+/// Whether SETPCAP is not in effect, which calls 3 and 9 need.
+pub fn lacks_setpcap(m: &Moment) -> bool {
+    !m.has(CAP_SETPCAP)
+}
+
 /// Whether the one set is within the other.
 pub fn is_within(set: u64, of: u64) -> bool {
     set & !of == 0
 }
 
-/// The set of that capability.
+/// The set of that capability; a number above 63 is in no set.
 pub fn single(capability: u64) -> u64 {
-    1 << capability
+    if capability < 64 {
+        1 << capability
+    } else {
+        0
+    }
+}
+
+#[cfg(test)]
+mod tests {
+    use super::*;
+
+    // A drop of capability 0 by a thread without anything, and an answer to it that changes nothing.
+    fn answered(code: u32, value: u64, cause: u32) -> Moment {
+        let before = Credentials {
+            ruid: 1000,
+            euid: 1000,
+            suid: 1000,
+            fsuid: 1000,
+            rgid: 1000,
+            egid: 1000,
+            sgid: 1000,
+            fsgid: 1000,
+            permitted: 0,
+            inheritable: 0,
+            effective: 0,
+            bounding: 1,
+            ambient: 0,
+            securebits: 0,
+            nnp: false,
+        };
+        let answer = Answer { code, value, cause, after: before.clone() };
+        Moment::new(before, Step { call: 3, a: 0, b: 0, c: 0, attr: Vec::new() }, answer)
+    }
+
+    #[test]
+    fn a_refusal_by_the_rules_has_its_cause() {
+        assert!(answered(1, 0, 10).is_refused_for(10));
+        assert!(!answered(1, 0, 10).is_refused_for(1) && !answered(1, 0, 0).is_refused_for(1));
+        assert!(!answered(22, 0, 10).is_refused_for(10) && !answered(1, 7, 10).is_refused_for(10));
+    }
+
+    #[test]
+    fn nothing_else_has_a_cause() {
+        assert!(answered(22, 0, 0).is_refused(22) && !answered(22, 0, 1).is_refused(22));
+        assert!(!answered(1, 0, 0).is_refused(1) && !answered(1, 0, 1).is_refused(1));
+        assert!(answered(0, 0, 0).is_done() && !answered(0, 0, 1).is_done());
+        assert!(answered(0, 7, 0).is_answered(7) && !answered(0, 7, 1).is_answered(7));
+    }
+
+    #[test]
+    fn a_number_that_is_no_capability_is_in_no_set() {
+        assert_eq!((single(0), single(40), single(63), single(64)), (1, 1 << 40, 1 << 63, 0));
+        assert_eq!(single(1 << 32), 0);
+    }
 }

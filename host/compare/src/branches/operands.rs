@@ -105,6 +105,15 @@ pub fn is_given(step: &Step) -> bool {
     all_hold && (step.call == 1 || step.attr.is_empty())
 }
 
+/// Whether there is a reason for refusal 22, and none in an operand that the call's rules could refuse: something is given where nothing may be, or
+/// a number of a launch is out of range.
+pub fn is_wrong_untested(step: &Step) -> bool {
+    let Some(operands) = operands_of(step.call) else { return false };
+    let values = [step.a, step.b, step.c];
+    let is_right = |operand: Operand, value| matches!(operand, Unused | Owner | Flags | Group) || operand.holds(value);
+    operands.iter().zip(values).all(|(operand, value)| is_right(*operand, value)) && !is_given(step)
+}
+
 fn operands_of(call: u8) -> Option<&'static [Operand; 3]> {
     OPERANDS.get(usize::from(call).checked_sub(1)?)
 }

@@ -84,14 +84,11 @@ impl<'a> PlanChecker<'a> {
                 plans::write_step(&mut first_steps, &step);
             }
             let answer = second::perform(&state, &step);
-            write_result(&mut results, answer.code, answer.value);
+            write_result(&mut results, answer.code, answer.value, answer.cause);
             let moment = Moment::new(state, step, answer);
             let told = |row: &str| unexpected(seed, text, row, told(&moment, index));
-            if moment.answer.code != 0 && !moment.is_refused(moment.answer.code) {
-                return Err(told("a refused call has value 0 and changes nothing"));
-            }
-            if !moment.answer.after.is_valid() {
-                return Err(told("valid credentials stay valid"));
+            if let Some(fault) = fault_of_any_call(&moment) {
+                return Err(told(fault));
             }
             self.table.meet_call(&moment, &mut self.counts).map_err(told)?;
             state = moment.answer.after;
@@ -124,6 +121,19 @@ fn given(text: &[u8]) -> String {
 // What is known of a text or a call is not what came back.
 fn unexpected(seed: u64, text: &[u8], row: &str, more: String) -> Box<Difference> {
     Box::new(Difference { seed, what: against_the_table(row), given: given(text), more })
+}
+
+// What is true of every call, where it is not.
+fn fault_of_any_call(moment: &Moment) -> Option<&'static str> {
+    let answer = &moment.answer;
+    let causes = if answer.code == 1 { 1..=11 } else { 0..=0 };
+    if answer.code != 0 && !moment.has_no_effect() {
+        return Some("a refused call has value 0 and changes nothing");
+    }
+    if !causes.contains(&answer.cause) {
+        return Some("refusal 1 has a cause from 1 to 11, and every other answer has 0");
+    }
+    (!answer.after.is_valid()).then_some("valid credentials stay valid")
 }
 
 fn told(moment: &Moment, index: usize) -> String {
@@ -171,6 +181,29 @@ mod tests {
         assert!(!is_same(Outcome::Malformed { line: 3 }, second::Outcome::Malformed { line: 4 }));
         assert!(!is_same(Outcome::Report { length: 3 }, second::Outcome::Report { length: 4 }));
         assert!(!is_same(Outcome::Invalid, second::Outcome::NoRoom));
+    }
+
+    // A thread that may do nothing tries to drop a capability from the bounding set; what if that came back?
+    fn fault_where_it_came_to(code: u32, value: u64, cause: u32) -> Option<&'static str> {
+        let before = (0..).find_map(|seed| match generated(seed).kind {
+            Kind::Runs(plan) if plan.start.effective == 0 => Some(plan.start),
+            _ => None,
+        });
+        let before = before.expect("some plan starts without an effective capability");
+        let step = second::Step { call: 3, a: 0, b: 0, c: 0, attr: Vec::new() };
+        let answer = second::Answer { code, value, cause, after: before.clone() };
+        fault_of_any_call(&Moment::new(before, step, answer))
+    }
+
+    #[test]
+    fn a_cause_comes_with_refusal_1_alone() {
+        assert_eq!(fault_where_it_came_to(1, 0, 1), None);
+        assert_eq!(fault_where_it_came_to(22, 0, 0), None);
+        assert_eq!(fault_where_it_came_to(0, 7, 0), None);
+        for (code, cause) in [(1, 0), (1, 12), (0, 1), (22, 1), (60, 11), (0, 12)] {
+            assert!(fault_where_it_came_to(code, 0, cause).is_some_and(|fault| fault.contains("a cause from 1 to 11")));
+        }
+        assert_eq!(fault_where_it_came_to(1, 7, 1), Some("a refused call has value 0 and changes nothing"));
     }
 
     #[test]

@@ -2,7 +2,7 @@
 //! effective ID another; a bit that changes nothing does not.
 
 use super::rows::{done, full_gain, has_attribute_alone, Part};
-use super::{Cause, File, Launch};
+use super::{File, Launch, Reason};
 use crate::branches::family::{Family, EFFECTIVE, FILESYSTEM, REAL, SAVED};
 use crate::branches::moment::is_within;
 use crate::branches::Moment;
@@ -140,32 +140,33 @@ fn other_family(family: Family) -> Part {
     ]
 }
 
-// In force or not: three causes ignore the bit, and no_file_caps does not.
+// In force or not: three reasons ignore the bit, and no_file_caps does not.
 fn ignored(family: Family) -> Part {
     let bit = bit(family);
     let would_change =
         move |m: &Moment, l: &Launch| m.before.ambient != 0 && l.has_bit_of(family) && !is_own(m, l, family);
     let mut rows = Vec::new();
-    for (cause, name) in [(Cause::NoNewPrivs, "no-new-privs"), (Cause::Nosuid, "nosuid"), (Cause::Traced, "traced")] {
+    for (reason, name) in [(Reason::NoNewPrivs, "no-new-privs"), (Reason::Nosuid, "nosuid"), (Reason::Traced, "traced")]
+    {
         rows.push(done(
             format!("d: kept, {bit} ignored by {name} would make the ID another"),
-            move |m, l| l.is_only_by(cause) && would_change(m, l) && !l.has_bit_of(family.other()),
+            move |m, l| l.is_only_by(reason) && would_change(m, l) && !l.has_bit_of(family.other()),
             is_kept,
         ));
         rows.push(done(
             format!("d: kept, {bit} ignored by {name} would change nothing"),
-            move |m, l| l.is_only_by(cause) && m.before.ambient != 0 && l.has_bit_of(family) && is_own(m, l, family),
+            move |m, l| l.is_only_by(reason) && m.before.ambient != 0 && l.has_bit_of(family) && is_own(m, l, family),
             is_kept,
         ));
     }
     rows.push(done(
         format!("d: emptied under no_file_caps by {bit} that makes the ID another"),
-        move |m, l| l.is_only_by(Cause::NoFileCaps) && would_change(m, l) && !l.has_bit_of(family.other()),
+        move |m, l| l.is_only_by(Reason::NoFileCaps) && would_change(m, l) && !l.has_bit_of(family.other()),
         is_emptied,
     ));
     rows.push(done(
         format!("d: kept under no_file_caps, {bit} changes nothing"),
-        move |m, l| l.is_only_by(Cause::NoFileCaps) && is_alone(m, l, family) && !would_change(m, l),
+        move |m, l| l.is_only_by(Reason::NoFileCaps) && is_alone(m, l, family) && !would_change(m, l),
         is_kept,
     ));
     rows

@@ -1,7 +1,7 @@
 //! The rows of "Launching" that speak of the file's group: a and b with the set-group-ID bit, and that a group 0 is no root.
 
 use super::rows::{done, full_gain, has_bit, refused, Part};
-use super::{own_gain, Cause, Launch};
+use super::{own_gain, Launch, Reason};
 use crate::branches::family::Family;
 use crate::branches::validity::LARGEST_ID;
 use crate::branches::Moment;
@@ -37,16 +37,17 @@ fn become_the_effective(m: &Moment, _: &Launch) -> bool {
 // a: where the bit is ignored.
 fn ignored() -> Part {
     let mut rows = Vec::new();
-    for (cause, name) in [(Cause::NoNewPrivs, "no-new-privs"), (Cause::Nosuid, "nosuid"), (Cause::Traced, "traced")] {
+    for (reason, name) in [(Reason::NoNewPrivs, "no-new-privs"), (Reason::Nosuid, "nosuid"), (Reason::Traced, "traced")]
+    {
         rows.push(done(
             format!("a: set-group-ID ignored by {name}"),
-            move |m, l| l.is_only_by(cause) && l.set_group_id && is_another(m, l),
+            move |m, l| l.is_only_by(reason) && l.set_group_id && is_another(m, l),
             become_the_effective,
         ));
     }
     rows.push(done(
         "a: set-group-ID in force under no_file_caps",
-        |m, l| l.is_only_by(Cause::NoFileCaps) && l.set_group_id && is_another(m, l),
+        |m, l| l.is_only_by(Reason::NoFileCaps) && l.set_group_id && is_another(m, l),
         become_the_files,
     ));
     rows

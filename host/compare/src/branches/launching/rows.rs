@@ -1,6 +1,6 @@
 //! The rows of "Launching", letter by letter; those of c are in `root`, those of d in `ambient`, those of the file's group in `groups`.
 
-use super::{ambient, groups, own_gain, root, Cause, Launch, Reading};
+use super::{ambient, groups, own_gain, root, Launch, Reading, Reason};
 use crate::branches::moment::{is_within, KEEP_CAPS};
 use crate::branches::{Moment, Row};
 
@@ -26,48 +26,48 @@ pub fn done(
     Row::new(format!("Launching, {}", name.into()), applies, holds)
 }
 
-/// A row of a launch that is refused with 1.
+/// A row of a launch that is refused with 1; the one cause that a launch has is 11.
 pub fn refused(name: &str, when: impl Fn(&Moment, &Launch) -> bool + Send + Sync + 'static) -> Row<Moment> {
     let applies = move |m: &Moment| m.launch.as_ref().is_some_and(|l| l.is_refused() && when(m, l));
-    Row::new(format!("Launching, {name}"), applies, |m: &Moment| m.is_refused(1))
+    Row::new(format!("Launching, {name}"), applies, |m: &Moment| m.is_refused_for(11))
 }
 
 // a: what is ignored, and that it is not read.
 fn ignored() -> Part {
     let mut rows = Vec::new();
-    let causes = [
-        (Cause::NoNewPrivs, "no-new-privs"),
-        (Cause::Nosuid, "nosuid"),
-        (Cause::Traced, "traced"),
-        (Cause::NoFileCaps, "no_file_caps"),
+    let reasons = [
+        (Reason::NoNewPrivs, "no-new-privs"),
+        (Reason::Nosuid, "nosuid"),
+        (Reason::Traced, "traced"),
+        (Reason::NoFileCaps, "no_file_caps"),
     ];
-    for (cause, name) in causes {
-        if cause != Cause::NoFileCaps {
+    for (reason, name) in reasons {
+        if reason != Reason::NoFileCaps {
             rows.push(done(
                 format!("a: set-user-ID ignored by {name}"),
-                move |m, l| l.is_only_by(cause) && l.set_user_id && l.owner != m.before.euid,
+                move |m, l| l.is_only_by(reason) && l.set_user_id && l.owner != m.before.euid,
                 |m, _| m.answer.after.euid == m.before.euid,
             ));
         }
         rows.push(done(
             format!("a: attribute ignored by {name}, ambient kept"),
-            move |m, l| l.is_only_by(cause) && has_attribute_alone(l) && m.before.ambient != 0,
+            move |m, l| l.is_only_by(reason) && has_attribute_alone(l) && m.before.ambient != 0,
             |m, _| m.answer.after.ambient == m.before.ambient,
         ));
         rows.push(done(
             format!("a: attribute that f would refuse ignored by {name}"),
-            move |_, l| l.is_only_by(cause) && l.falls_short && own_bit(l),
+            move |_, l| l.is_only_by(reason) && l.falls_short && own_bit(l),
             |_, _| true,
         ));
         rows.push(done(
             format!("a: unreadable attribute ignored by {name}"),
-            move |_, l| l.is_only_by(cause) && l.reading == Reading::Unreadable,
+            move |_, l| l.is_only_by(reason) && l.reading == Reading::Unreadable,
             |_, _| true,
         ));
     }
     rows.push(done(
         "a: set-user-ID in force under no_file_caps",
-        |m, l| l.is_only_by(Cause::NoFileCaps) && l.set_user_id && l.owner != m.before.euid,
+        |m, l| l.is_only_by(Reason::NoFileCaps) && l.set_user_id && l.owner != m.before.euid,
         |m, l| m.answer.after.euid == l.owner,
     ));
     rows
