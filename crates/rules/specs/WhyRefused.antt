@@ -39,21 +39,21 @@ pub record Test : Type 0 where
 abbrev test : ℕ → Bool → Test
 test number fails = record { number = number; fails = fails }
 
--- that SETPCAP is effective
+-- fails for a thread that has no SETPCAP
 abbrev noSetpcap : Credentials → Bool
 noSetpcap c = lacks (c .sets .effective) CAP-SETPCAP
 
--- that an ID call may make the IDs so
+-- fails where an ID call may not make the IDs so
 abbrev pub notAllowed : NewIds → Bool
 notAllowed (Allowed new) = false
 notAllowed NotAllowed = true
 
--- that a launch gives the file's permitted set; a file that cannot be read is refused before that, with 60
+-- fails where a launch falls short of the file's permitted set; a file that cannot be read is refused before that, with 60
 abbrev pub readFallsShort : Sets → Reading → Bool
 readFallsShort s (File f) = fallsShort s f
 readFallsShort s Unreadable = false
 
--- the tests of each call
+-- the tests of each call, with the numbers of their causes: 1 to 11, as the request has them
 abbrev pub tests : Credentials → List ℕ → Call → List Test
 tests c attribute (Execve owner flags group) = test 11 (readFallsShort (c .sets) (fileRead (c .nnp) flags attribute)) ∷ []
 tests c attribute (Capset p i e) =

@@ -33,7 +33,7 @@ pub enum Cause {
     AmbientRaiseForbidden,
     // A lock that is set is missing from the new securebits.
     LockUndone,
-    // A flag of the securebits that is locked would be changed.
+    // A flag of the securebits that is locked would be changed; by call 11 also where it would stay as it is.
     LockedFlagChanged,
     // An ID is not among those that the thread may take.
     IdNotAllowed,
