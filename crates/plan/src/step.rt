@@ -26,11 +26,12 @@ struct Operands {
     place: Place,
 }
 
-// What a step gives: its code, its value, its cause and the credentials after it.
+// What a step gives: its code, its cause, its value and the credentials after it. The two bytes stand together, so that no padding comes between the value
+// and the credentials: with some, copies of these are slow.
 pub(crate) struct StepResult {
     pub code: u8,
-    pub value: u64,
     pub cause: u8,
+    pub value: u64,
     pub after: Credentials,
 }
 
@@ -86,8 +87,8 @@ pub(crate) fn run_step(text: &[u8], at: usize, held: Credentials, table: &[u8; 2
     );
     let given = StepResult {
         code: answers::code(answer),
-        value: answers::value(answer),
         cause: answers::cause(answer),
+        value: answers::value(answer),
         after: answers::after(held, answer),
     };
     StepRun::Done(given, end.at)

@@ -39,11 +39,11 @@ perform-requires c κs = tt
 code-requires : tie.Need-code-requires
 code-requires c κs = tt
 
-value-requires : tie.Need-value-requires
-value-requires c κs = tt
-
 cause-requires : tie.Need-cause-requires
 cause-requires c κs = tt
+
+value-requires : tie.Need-value-requires
+value-requires c κs = tt
 
 after-requires : tie.Need-after-requires
 after-requires c κs = tt
@@ -52,7 +52,7 @@ returns-2 : tie.Need-returns-2
 unfolding result
 returns-2 c =
     let s = step-done (result (c .before .before .before .before .before .before .before .before .before .before .before .before .before .before .args .held)) _ _ _ _ _ _ (c .before .before .before .before .before .before .before .before .before .before .before .before .before .before .pre) (c .before .before .before .before .before .before .before .before .before .before .before .before .read-operands .ensures) (c .before .before .before .before .before .before .before .before .before .before .read-attribute .ensures) (c .before .before .before .before .before .before .before .before .if1 .left) in
-    (rw (s .0, c .after .ensures, c .before .cause .ensures, c .before .before .value .ensures, c .before .before .before .code .ensures, c .before .before .before .before .perform .ensures, sub-zero), search needs)
+    (rw (s .0, c .after .ensures, c .before .value .ensures, c .before .before .cause .ensures, c .before .before .before .code .ensures, c .before .before .before .before .perform .ensures, sub-zero), search needs)
 
 pub run-step-spec : {M : Type 1} → statement M
 run-step-spec =
@@ -67,7 +67,7 @@ run-step-spec =
     part-perform-end
     perform-requires
     code-requires
-    value-requires
     cause-requires
+    value-requires
     after-requires
     returns-2)
