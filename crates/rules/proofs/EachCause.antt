@@ -70,7 +70,7 @@ launching start n v e =
       has-cause = e;
     }
 
--- ---- the examples
+-- ---- the examples: where tests with higher numbers can fail too, they do
 
 record Examples : Type 0 where
   execve-11 : Occurs 1 11
@@ -97,15 +97,15 @@ unfolding has lacks minus single outside wordAt wordBytes fileOf lengthOf readin
 examples =
     record {
       execve-11 = launching (thread 0 0 0 0 0) 11 refl refl;
-      capset-2 = by poor 2 0 (single 13) 0 2 refl refl;
-      capset-3 = by (thread (single 13) 0 0 0 0) 2 0 (single 13) 0 3 refl refl;
-      capset-4 = by poor 2 (single 13) 0 0 4 refl refl;
+      capset-2 = by (thread 0 0 0 0 0) 2 (single 13) (single 13) (single 12) 2 refl refl;
+      capset-3 = by (thread (single 13) 0 0 0 0) 2 (single 12) (single 13) (single 13) 3 refl refl;
+      capset-4 = by poor 2 (single 13) 0 (single 12) 4 refl refl;
       capset-5 = by poor 2 0 0 (single 13) 5 refl refl;
       drop-1 = by poor 3 13 0 0 1 refl refl;
-      raise-6 = by poor 5 13 0 0 6 refl refl;
+      raise-6 = by (thread 0 0 0 full 64) 5 13 0 0 6 refl refl;
       raise-7 = by (thread (single 13) (single 13) 0 full 64) 5 13 0 0 7 refl refl;
-      securebits-1 = by poor 9 0 0 0 1 refl refl;
-      securebits-8 = by (able 2) 9 0 0 0 8 refl refl;
+      securebits-1 = by (thread 0 0 0 full 2) 9 1 0 0 1 refl refl;
+      securebits-8 = by (able 2) 9 1 0 0 8 refl refl;
       securebits-9 = by (able 2) 9 3 0 0 9 refl refl;
       keep-caps-9 = by (thread 0 0 0 full 32) 11 0 0 0 9 refl refl;
       setuid-10 = by poor 15 0 0 0 10 refl refl;
