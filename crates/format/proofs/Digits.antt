@@ -2,7 +2,9 @@
 use mathlib.Core.Path.{_≡_, refl}
 use mathlib.Core.Logic.{⊎-elim}
 use mathlib.Core.Bool.{Bool, true, false, cond}
-use Prim.Native.Nat.{ℕ, _+_, _-_, _<_, _≤_}
+use Prim.Native.Nat.{ℕ, _+_, _-_, _*_, _<_, _≤_, _^_}
+use native.Mathlib.Numerals.{add-one}
+use native.Mathlib.Nat.{le-of-suc-le-suc, pow-suc, pow-le-pow-right}
 use native.Mathlib.Omega.{arith}
 use borrow.Author.Tests.{ltb-true, ltb-false, lt-ltb, le-ltb}
 use lib.Dec.{ltb}
@@ -65,3 +67,12 @@ decimal-digit-written b =
     by-test (Written 10 b) (ltb b 48) _ _ (λ p h. absurd (omega arith)) λ p.
     by-test (Written 10 b) (ltb b 58) _ _ (λ q h. simp (lt-ltb (b - 48) 10 (omega (arith, ltb-true b 58 q))) (omega (arith, ltb-false b 48 p))) λ q h.
     absurd (omega arith)
+
+-- ---- so many hex digits make a number so large
+
+-- fewer than 16 digits leave room for one more in 64 bits
+pub hex-room : (k v : ℕ) → k < 16 → v < 16 ^ k → v < 1152921504606846976
+hex-room k v h g = omega (arith, pow-le-pow-right {n = 16} (omega arith) {i = k} {j = 15} (le-of-suc-le-suc h))
+
+pub hex-grows : (k v d : ℕ) → v < 16 ^ k → d < 16 → v * 16 + d < 16 ^ (k + 1)
+hex-grows k v d h g = rw (add-one k, pow-suc 16 k) (omega arith)

@@ -3,6 +3,7 @@ pub mod Computed
 pub mod Decimals
 pub mod Digits
 pub mod Fitting
+pub mod Keys
 pub mod Lengths
 pub mod Longest
 pub mod Pairs

@@ -21,18 +21,18 @@ use Rattle.format.proofs.ReadWritten.{lines-written}
 
 -- ---- a flag and its number
 
-flag-read : (b : Bool) → eqb (number b) 1 ≡ b
+pub flag-read : (b : Bool) → eqb (number b) 1 ≡ b
 unfolding number
 flag-read true = refl
 flag-read false = refl
 
-flag-written : (v : ℕ) → v ≤ 1 → v ≡ number (eqb v 1)
+pub flag-written : (v : ℕ) → v ≤ 1 → v ≡ number (eqb v 1)
 unfolding number
 flag-written zero h = refl
 flag-written (suc zero) h = refl
 flag-written (suc (suc v)) h = absurd (omega arith)
 
-flag-small : (b : Bool) → number b ≤ 1
+pub flag-small : (b : Bool) → number b ≤ 1
 unfolding number
 flag-small true = omega arith
 flag-small false = omega arith

@@ -4,7 +4,7 @@ use Prim.Native.String as S
 use Prim.Native.String.{String}
 use Prim.Native.Char.{code}
 use mathlib.Core.List.{List, [], _∷_, _++_}
-use mathlib.Core.Bool.{cond, _&&_}
+use mathlib.Core.Bool.{Bool, true, false, cond, _&&_}
 use lib.Dec.{ltb, leb, eqb}
 
 -- the bytes of a quoted text
@@ -127,6 +127,12 @@ readDecimal largest (b ∷ t) =
 abbrev pub readValue : Form → List ℕ → Read ℕ
 readValue (decimal largest) t = readDecimal largest t
 readValue (hex n) t = readHex n 0 t
+
+-- a text starts with a key
+unfoldable pub startsWith : List ℕ → List ℕ → Bool
+startsWith [] t = true
+startsWith (k ∷ ks) [] = false
+startsWith (k ∷ ks) (b ∷ t) = cond (eqb b k) (startsWith ks t) false
 
 -- the bytes of a key, then what follows it
 unfoldable pub afterKey : {A : Type 0} → List ℕ → (List ℕ → Read A) → List ℕ → Read A

@@ -9,12 +9,13 @@ use native.Mathlib.Nat.{le-of-suc-le-suc, not-suc-le-zero, pow-suc, pow-le-pow-r
 use lib.Dec.{ltb, leb, eqb}
 use lib.ListN.{length, getD, drop, length-drop, drop-of-length-le}
 use lib.Seq.{drop-cons, drop-drop, getD-drop}
-use Rattle.format.specs.Line.{Read, read, fault, decimalDigit, newline, readHex, readDigits, readDecimal, afterKey}
+use Rattle.format.specs.Line.{Read, read, fault, decimalDigit, newline, readHex, readDigits, readDecimal, startsWith, afterKey}
 use Rattle.hex_tables.specs.Tables.{hexDigitBy, readHexBy}
 use Rattle.line_reader.specs.declared.lines.Line.the-variants.{Is, Fault}
 use Rattle.line_reader.specs.declared.lines.Digits.{Digits}
 use Rattle.line_reader.specs.declared.lines.Digits.the-variants.{Make, No}
-use Rattle.line_reader.specs.Inside.{startsWith, hexOf, placed, lineAt}
+use Rattle.line_reader.specs.Inside.{hexOf, placed, lineAt}
+use Rattle.format.proofs.Keys.{key-there, key-missing}
 
 cond-same : {A : Type 0} (t : Bool) (x : A) → cond t x x ≡ x
 cond-same true x = refl
@@ -26,37 +27,6 @@ position text i h = omega (arith, length-drop i text)
 
 -- ---- the key
 
-pub starts-step : (key text : List ℕ) (k i j : ℕ) → k < length key → i < length text → j ≡ i + 1
-    → startsWith (drop k key) (drop i text) ≡ cond (eqb (getD text i 0) (getD key k 0)) (startsWith (drop (k + 1) key) (drop j text)) false
-unfolding startsWith
-starts-step key text k i j h g e = rw (drop-cons key k 0 h, drop-cons text i 0 g, e, add-one i, add-one k)
-
-pub starts-end : (key t : List ℕ) (k : ℕ) → length key ≤ k → startsWith (drop k key) t ≡ true
-unfolding startsWith
-starts-end key t k h = rw (drop-of-length-le key h)
-
-both-true : (s x : Bool) → cond s x false ≡ true → (s ≡ true) × (x ≡ true)
-both-true true x h = (refl, h)
-both-true false x h = let z : _≡_ {A = ℕ} 0 1 = cc in absurd (omega arith)
-
-pub key-there : {A : Type 0} (key : List ℕ) (f : List ℕ → Read A) (t : List ℕ) → startsWith key t ≡ true → afterKey key f t ≡ f (drop (length key) t)
-unfolding startsWith afterKey
-key-there [] f t h = refl
-key-there (k ∷ ks) f [] h = let z : _≡_ {A = ℕ} 0 1 = cc in absurd (omega arith)
-key-there (k ∷ ks) f (b ∷ t) h =
-    let e = both-true (eqb b k) (startsWith ks t) h in
-    rw (e .0) (key-there ks f t (e .1))
-
-by-byte : {A : Type 0} (s x : Bool) (r : Read A) → cond s x false ≡ false → (x ≡ false → r ≡ fault) → cond s r fault ≡ fault
-by-byte true x r h f = f h
-by-byte false x r h f = refl
-
-pub key-missing : {A : Type 0} (key : List ℕ) (f : List ℕ → Read A) (t : List ℕ) → startsWith key t ≡ false → afterKey key f t ≡ fault
-unfolding startsWith afterKey
-key-missing [] f t h = let z : _≡_ {A = ℕ} 0 1 = cc in absurd (omega arith)
-key-missing (k ∷ ks) f [] h = refl
-key-missing (k ∷ ks) f (b ∷ t) h = by-byte (eqb b k) (startsWith ks t) (afterKey ks f t) h (λ g. key-missing ks f t g)
-
 -- a text too short for a key and m bytes more, without which there is no value
 pub key-short : {A : Type 0} (m : ℕ) (key : List ℕ) (f : List ℕ → Read A) (t : List ℕ) → ((u : List ℕ) → length u < m → f u ≡ fault)
     → length t < length key + m → afterKey key f t ≡ fault
@@ -66,13 +36,6 @@ key-short m (k ∷ ks) f [] g h = refl
 key-short m (k ∷ ks) f (b ∷ t) g h = rw (key-short m ks f t g (omega arith)) (cond-same (eqb b k) fault)
 
 -- ---- hex digits by a table
-
--- fewer than 16 digits leave room for one more in 64 bits
-pub hex-room : (k v : ℕ) → k < 16 → v < 16 ^ k → v < 1152921504606846976
-hex-room k v h g = omega (arith, pow-le-pow-right {n = 16} (omega arith) {i = k} {j = 15} (le-of-suc-le-suc h))
-
-pub hex-grows : (k v d : ℕ) → v < 16 ^ k → d < 16 → v * 16 + d < 16 ^ (k + 1)
-hex-grows k v d h g = rw (add-one k, pow-suc 16 k) (omega arith)
 
 -- digits that make a number, then what the byte past them decides
 abbrev made : Digits → (ℕ → Read ℕ) → Read ℕ

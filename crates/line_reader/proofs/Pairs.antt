@@ -8,12 +8,13 @@ use native.Mathlib.Numerals.{add-one}
 use lib.Dec.{ltb, eqb}
 use lib.ListN.{length, getD, set, take, drop, replicate, length-drop, drop-of-length-le, take-append-drop}
 use lib.Seq.{drop-cons, drop-drop, length-take-le}
-use Rattle.format.specs.Line.{Read, read, fault, newline}
+use Rattle.format.specs.Line.{Read, read, fault, newline, startsWith}
+use Rattle.format.proofs.Keys.{key-there, key-missing}
 use Rattle.format.specs.Step.{readPairs}
 use Rattle.hex_tables.specs.Tables.{hexDigitBy, readPairsBy}
 use Rattle.line_reader.specs.declared.lines.Bytes.{Bytes}
-use Rattle.line_reader.specs.Inside.{startsWith, placedBytes, noBytes, bytesAt}
-use Rattle.line_reader.proofs.LineLaws.{position, key-there, key-missing, key-short}
+use Rattle.line_reader.specs.Inside.{placedBytes, noBytes, bytesAt}
+use Rattle.line_reader.proofs.LineLaws.{position, key-short}
 
 -- ---- one pair of digits
 

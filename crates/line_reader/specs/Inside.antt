@@ -17,12 +17,6 @@ use Rattle.line_reader.specs.declared.lines.Digits.the-variants.{Make, N
 
 -- ---- one line
 
--- a text starts with a key
-unfoldable pub startsWith : List ℕ → List ℕ → Bool
-startsWith [] t = true
-startsWith (k ∷ ks) [] = false
-startsWith (k ∷ ks) (b ∷ t) = cond (eqb b k) (startsWith ks t) false
-
 -- the number that the first n bytes of a text make as hex digits by a table after the number v
 unfoldable pub hexOf : List ℕ → ℕ → ℕ → List ℕ → Digits
 hexOf table zero v t = Make v

@@ -5,7 +5,8 @@ use native.Mathlib.Omega.{arith}
 use native.Mathlib.Nat.{sub-zero, add-zero}
 use borrow.Author.Needs.{needs}
 use lib.ListN.{drop}
-use Rattle.line_reader.proofs.LineLaws.{hex-step, hex-end, hex-room, hex-grows}
+use Rattle.line_reader.proofs.LineLaws.{hex-step, hex-end}
+use Rattle.format.proofs.Digits.{hex-room, hex-grows}
 use Rattle.line_reader.specs.Inside.{hexOf}
 use borrow.Author.Tests.{le-ltb, lt-ltb}
 use Rattle.line_reader.proofs.lines.hex_at.Statement.{statement}

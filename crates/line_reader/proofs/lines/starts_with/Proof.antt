@@ -5,9 +5,9 @@ use native.Mathlib.Omega.{arith}
 use native.Mathlib.Nat.{add-zero}
 use borrow.Author.Needs.{needs}
 use lib.ListN.{drop}
-use Rattle.line_reader.proofs.LineLaws.{starts-step, starts-end}
+use Rattle.format.proofs.Keys.{starts-step, starts-end}
 use borrow.Author.Tests.{eq-eqb, ne-eqb}
-use Rattle.line_reader.specs.Inside.{startsWith}
+use Rattle.format.specs.Line.{startsWith}
 use Rattle.line_reader.proofs.lines.starts_with.Statement.{statement}
 use Rattle.line_reader.proofs.lines.starts_with.Tie as tie
 
