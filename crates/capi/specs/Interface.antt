@@ -1,5 +1,5 @@
--- What the readers and writers of sheets, attributes and sets in names give across the C interface: one number, and what a lent buffer holds afterwards.
--- Assumes nothing.
+-- What the readers and writers of sheets, attributes and sets in names, and the comparison of a status text, give across the C interface: one number, and what a
+-- lent buffer holds afterwards. Assumes nothing.
 use Prim.Native.Nat.{ℕ, _+_, _*_}
 use mathlib.Core.Bool.{Bool, cond, _&&_}
 use mathlib.Core.List.{List, [], _∷_, _++_}
@@ -18,6 +18,12 @@ use Rattle.names.specs.declared.Reading.the-variants as NV
 use Rattle.format.specs.declared.SheetReading.{SheetReading}
 use Rattle.format.specs.declared.SheetReading.the-variants.{Sheet, Malformed, Invalid}
 use Rattle.format.specs.Sheet.{sheetKinds, sheetValues, credentialsOf, sheetAnswer, sheetBuffer}
+use Rattle.format.specs.Report.{buffer}
+use Rattle.status.specs.declared.Comparison.{Comparison}
+use Rattle.status.specs.declared.Reading as StatusReading
+use Rattle.status.specs.declared.Reading.the-variants.{Shows}
+use Rattle.status.specs.declared.Reading.the-variants as StatusVariants
+use Rattle.status.specs.Comparing.{laid, comparison}
 
 -- the number that comes back: the code times 4294967296, and a line, a place, a length or a count
 unfoldable pub joined : ℕ → ℕ → ℕ
@@ -92,7 +98,7 @@ namedSets p i e = record { permitted = p; inheritable = i; effective = e }
 abbrev pub namedValues : Sets → List ℕ
 namedValues s = s .permitted ∷ s .inheritable ∷ s .effective ∷ []
 
--- a place in the number's low half, which ends at 4294967295: that for any further place, too
+-- a place or a line in the number's low half, which ends at 4294967295: that for any further one, too
 unfoldable pub lowPlace : ℕ → ℕ
 lowPlace place = cond (ltb place 4294967295) place 4294967295
 
@@ -104,3 +110,23 @@ namesNumber (NV.Malformed place) room = joined 70 (lowPlace place)
 abbrev pub namesGiven : N.Reading → List ℕ → List ℕ
 namesGiven (Means s) old = givenIn (namedValues s) old
 namesGiven (NV.Malformed place) old = old
+
+-- ---- a status text beside a sheet
+
+-- the comparison's code and length; where what was found is laid beside credentials there is no line
+abbrev pub listNumber : Comparison → ℕ
+listNumber r = joined (r .code) (r .length)
+
+-- 70 with the status text's line, which is at least 1; 70 with 0 for a sheet that is malformed; 72, then 28; done, the list's length
+abbrev pub statusNumber : StatusReading.Reading → SheetReading → ℕ → ℕ
+statusNumber (StatusVariants.Malformed line) sheet room = joined 70 (lowPlace line)
+statusNumber (Shows found) (Malformed line) room = joined 70 0
+statusNumber (Shows found) Invalid room = joined 72 0
+statusNumber (Shows found) (Sheet c) room = listNumber (comparison (laid found c) room)
+
+-- the buffer afterwards: the list and past it what was there; where it is refused, as it was
+abbrev pub statusList : StatusReading.Reading → SheetReading → List ℕ → List ℕ
+statusList (StatusVariants.Malformed line) sheet old = old
+statusList (Shows found) (Malformed line) old = old
+statusList (Shows found) Invalid old = old
+statusList (Shows found) (Sheet c) old = buffer (laid found c) old

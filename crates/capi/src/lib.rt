@@ -11,7 +11,9 @@ ghost use Rattle.format.specs.Sheet.{credentialsOf, readSheet, sheetValues};
 ghost use Rattle.format.specs.Report.{verdict, outcome, buffer, cNumber};
 ghost use Rattle.names.specs.Reading.{readText};
 ghost use Rattle.names.specs.Writing.{namesAnswer, namesBuffer};
-ghost use Rattle.capi.specs.Interface.{areValues, bitBuffer, bitWritten, fileGiven, fileNumber, fileValues, givenIn, givenNumber, joined, lowPlace, namedSets, namedValues, namesGiven, namesNumber, sheetGiven, sheetNumber, valuesBuffer, valuesWritten, writtenNumber};
+ghost use Rattle.status.specs.Reading.{readStatus};
+ghost use Rattle.status.specs.declared.Reading.the-variants.{Shows};
+ghost use Rattle.capi.specs.Interface.{areValues, bitBuffer, bitWritten, fileGiven, fileNumber, fileValues, givenIn, givenNumber, joined, lowPlace, namedSets, namedValues, namesGiven, namesNumber, sheetGiven, sheetNumber, statusList, statusNumber, valuesBuffer, valuesWritten, writtenNumber};
 use attribute::FileCapabilities;
 use attribute::Reading;
 use codes::DONE;
@@ -23,6 +25,7 @@ use credentials::Credentials;
 use credentials::Ids;
 use credentials::Sets;
 use format::SheetReading;
+use status::Status;
 
 // The place of the code in the number.
 const CODE: u64 = 0x1_0000_0000;
@@ -34,7 +37,7 @@ const FILE_VALUES: usize = 4;
 
 const NAMED_VALUES: usize = 3;
 
-// The largest place that the number has room for.
+// The largest place or line that the number has room for.
 const LARGEST_PLACE: usize = 0xffff_ffff;
 
 // Runs the plan and writes its report at the front of the buffer: the code times 4294967296, plus the line of a fault (70) or the report's length
@@ -150,6 +153,33 @@ pub extern "C" fn urrezkalu_write_names(
     joined(written.code, written.length)
 }
 
+// Lays a status text beside the credentials that a sheet predicts, and writes what differs at the front of the buffer: 70 with the line of the status text's
+// fault, from 1 on, 70 with 0 where the sheet is malformed, 72 where its credentials are not valid, 28 where the list is longer than the buffer, and in
+// each case nothing is written; else the list's length. A line above 4294967295 is given as 4294967295.
+#[no_mangle]
+pub extern "C" fn urrezkalu_compare_status(status: &[u8], sheet: &[u8], list: &mut [u8]) -> u64
+    ensures { λ r. ⌜ (r ≡ statusNumber (readStatus (now (status .entry))) (readSheet (now (sheet .entry))) (length (now (list .entry)))) × (now (list .exit) ≡ statusList (readStatus (now (status .entry))) (readSheet (now (sheet .entry))) (now (list .entry))) ⌝ }
+{
+    match status_reader::read_status(status) {
+        status::Reading::Malformed(line) => joined(MALFORMED, low_place(line)),
+        status::Reading::Shows(found) => beside_sheet(found, sheet, list),
+    }
+}
+
+// What was found in a status text, laid beside the credentials of a sheet.
+fn beside_sheet(found: Status, sheet: &[u8], list: &mut [u8]) -> u64
+    ensures { λ r. ⌜ (r ≡ statusNumber (Shows found) (readSheet (now (sheet .entry))) (length (now (list .entry)))) × (now (list .exit) ≡ statusList (Shows found) (readSheet (now (sheet .entry))) (now (list .entry))) ⌝ }
+{
+    match sheet_reader::read_sheet(sheet) {
+        SheetReading::Malformed(_) => joined(MALFORMED, 0),
+        SheetReading::Invalid => joined(INVALID_CREDENTIALS, 0),
+        SheetReading::Sheet(predicted) => {
+            let laid = status_comparison::lay_beside(found, predicted, list);
+            joined(laid.code, laid.length)
+        }
+    }
+}
+
 // The number of a code and a line, a place, a length or a count.
 fn joined(code: u8, low: u32) -> u64
     ensures { λ r. ⌜ r ≡ joined code low ⌝ }
@@ -246,7 +276,7 @@ fn give_names(values: &mut [u64], held: names::Sets) -> u64
     joined(DONE, NAMED_VALUES as u32)
 }
 
-// A place as the number has it: the largest that it has room for, where it has none for the place.
+// A place or a line as the number has it: the largest that it has room for, where it has none for the place.
 fn low_place(place: usize) -> u32
     ensures { λ r. ⌜ r ≡ lowPlace place ⌝ }
 {

@@ -1,0 +1,8 @@
+pub mod Computed
+pub mod Lacking
+pub mod Values
+pub mod Lines
+pub mod Dues
+pub mod Listed
+pub mod RoundTrip
+pub mod Longest

@@ -1,0 +1,7 @@
+pub mod Lines
+pub mod Reading
+pub mod Comparing
+pub mod RoundTrip
+pub mod Listed
+pub mod Longest
+pub mod Texts
