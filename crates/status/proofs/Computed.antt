@@ -13,7 +13,22 @@ use Rattle.status.specs.declared.Status.{Status}
 use Rattle.status.specs.Lines.{linesOf, entries, beginsOne, wanted}
 use Rattle.status.specs.Reading.{upTo, since, valueOf, readValues, readDues, readStatus}
 use Rattle.status.specs.Comparing.{idKeys, setKeys, flagKeys, keys, differenceText, differences, differing, lastLine, listText, laid, compared}
-use Rattle.status.specs.Texts.{none, strange, TextsHold}
+use Rattle.status.specs.Texts.{captured, found, other, holding, none, strange, TextsHold}
+
+-- ---- all keys agree, and all differ
+
+none-differs : compared captured (holding 77 found) ≡ report (bytes "not compared: securebits, group IDs\n")
+unfolding valid number hexText decimalOf decimalText readHex readDigits readDecimal afterKey linesOf entries startsWith beginsOne wanted upTo since valueOf readValues readDues readStatus idKeys setKeys flagKeys keys differenceText differences differing lastLine listText laid compared
+none-differs = refl
+
+all-differ : compared captured (holding 0 other)
+    ≡ report
+    (bytes "ruid 5 1000\neuid 6 1001\nsuid 7 1002\nfsuid 8 1003\n"
+    ++ bytes "permitted 0000000000003000 0000000000000007\ninheritable 0000000000002000 0000000000000001\n"
+    ++ bytes "effective 0000000000001000 0000000000000003\nbounding 000001fffffffffe 000001ffffffffff\n"
+    ++ bytes "ambient 0000000000002000 0000000000000000\nnnp 0 1\nnot compared: securebits, group IDs\n")
+unfolding valid number hexText decimalOf decimalText readHex readDigits readDecimal afterKey linesOf entries startsWith beginsOne wanted upTo since valueOf readValues readDues readStatus idKeys setKeys flagKeys keys differenceText differences differing lastLine listText laid compared
+all-differ = refl
 
 -- ---- 4294967295, listed: the definition of decimal digits is not one to compute a number of ten digits with
 
@@ -57,8 +72,8 @@ unfolding valid number hexText decimalOf decimalText readHex readDigits readDeci
 texts-hold =
     record {
       shown = refl;
-      all-differ = refl;
-      none-differs = refl;
+      all-differ = all-differ;
+      none-differs = none-differs;
       not-valid = strange-listed;
       above-largest = refl;
       leading-zero = refl;
