@@ -1,4 +1,4 @@
-/* The proved library, for C11 and C++11: plans, credential sheets, file attributes, and capability sets in names.
+/* The proved library, for C11 and C++11: plans, credential sheets, file attributes, capability sets in names, and status files beside a prediction.
  *
  * A plan is a text: the credentials that a thread starts with, then up to 256 calls. urrezkalu_run_plan writes the report: what each call
  * answers and what the thread holds after the last, or it says why the plan is refused. Every text gets an answer. urrezkalu_read_result takes a
@@ -30,9 +30,18 @@
  *         fprintf(stderr, "malformed at place %u\n", (unsigned)urrezkalu_place(number));
  *     }
  *
+ * A status file is what /proc/PID/status of proc(5) gives for a running thread. urrezkalu_compare_status lays it beside a sheet, such as the one that
+ * a report ends with, and lists what differs: `effective 0000000000002000 0000000000000000` where CAP_NET_RAW is predicted and no capability is found.
+ *
+ *     uint8_t list[URREZKALU_LONGEST_LIST];
+ *     uint64_t number = urrezkalu_compare_status(status, status_length, sheet, sheet_length, list, sizeof list);
+ *     if (urrezkalu_code(number) == URREZKALU_DONE) {
+ *         fwrite(list, 1, urrezkalu_length(number), stdout);
+ *     }
+ *
  * Link with libcapi.a. It needs no other library; the symbols that it leaves open are memcpy and memset, which every C library has.
  *
- * What holds of all seven functions:
+ * What holds of all eight functions:
  *
  * One number comes back: the code times 4294967296, plus the line or the place of a fault, or plus how much was written. urrezkalu_code,
  * urrezkalu_line, urrezkalu_place and urrezkalu_length take it apart. What would be refused for several reasons is refused for the first, in the
@@ -49,7 +58,8 @@
  * what is still to be read, and neither the number nor any byte of either means anything.
  *
  * Nothing is allocated, and nothing is kept from one call to the next: any number of threads may call at once, each with a buffer of its own,
- * and so may a signal handler. The time is in proportion to the text. urrezkalu_run_plan needs some 4.5 KiB of stack, the others less than 1.5 KiB. */
+ * and so may a signal handler. The time is in proportion to the text. urrezkalu_run_plan needs some 4.5 KiB of stack, the functions that read or
+ * write a sheet, an attribute or a text in names less than 1.5 KiB. */
 #ifndef URREZKALU_H
 #define URREZKALU_H
 
@@ -67,8 +77,8 @@ enum {
     URREZKALU_OUT_OF_RANGE = 22, /* A set has a bit above 40, or a file's effective bit is neither 0 nor 1. A step: it makes no call. */
     URREZKALU_NO_ROOM = 28,      /* What is to be written is longer than the buffer. */
     URREZKALU_UNREADABLE = 60,   /* The bytes are no attribute. A step: those of its attribute. */
-    URREZKALU_MALFORMED = 70,    /* The text is no plan, or no sheet: urrezkalu_line says where. Or no text in names: urrezkalu_place does. */
-    URREZKALU_INVALID = 72       /* The credentials are not valid. */
+    URREZKALU_MALFORMED = 70,    /* The text is no plan, sheet or status file: urrezkalu_line says where. Or no text in names: urrezkalu_place does. */
+    URREZKALU_INVALID = 72       /* The credentials are not valid: those that a plan starts with, a sheet's, or values for one. */
 };
 
 enum {
@@ -84,7 +94,9 @@ enum {
     URREZKALU_ATTRIBUTE_LENGTH = 20,
     /* The most bytes that sets have which are written in names: a buffer of this length is never too short. A text that is read may be longer; it
      * has no greatest length. */
-    URREZKALU_LONGEST_NAMES = 748
+    URREZKALU_LONGEST_NAMES = 748,
+    /* The most bytes that a list of what differs has: a buffer of this length is never too short. A status file has no greatest length. */
+    URREZKALU_LONGEST_LIST = 372
 };
 
 /* Why the rules refuse a step, URREZKALU_NOT_PERMITTED. Where several hold at once, the lowest is told. urrezkalu_cause_words has them in words. */
@@ -211,14 +223,35 @@ uint64_t urrezkalu_read_names(const uint8_t *text, size_t text_length, uint64_t 
  * Refusals, in this order: URREZKALU_OUT_OF_RANGE; URREZKALU_NO_ROOM. */
 uint64_t urrezkalu_write_names(uint64_t permitted, uint64_t inheritable, uint64_t effective, uint8_t *text, size_t text_length);
 
+/* Lays a status file beside the credentials of a sheet, which are the predicted ones, and writes what differs at the front of the buffer `list`, which
+ * has room for `list_length` bytes.
+ *
+ * The list has a line for each value that differs, in the order of a sheet: ruid, euid, suid, fsuid, permitted, inheritable, effective, bounding,
+ * ambient, nnp. A line is the key, the predicted value and the found one, with one space between, the values as a sheet has them. Then there is always
+ * the line `not compared: securebits, group IDs`, which alone is the list where nothing differs. Every line ends in a newline.
+ *
+ * Seven lines of the status file are wanted, once each and in this order: Uid, CapInh, CapPrm, CapEff, CapBnd, CapAmb, NoNewPrivs. Such a line is its
+ * name, a colon, and its values, each after one tab and in the digits of a sheet: four IDs, a set, or 0 or 1. What is found need not be valid: an ID of
+ * 4294967295 and a bit above 40 are read and listed. A line that does not begin with one of the seven names and a colon is passed over, whatever bytes
+ * it has. The newline of the last line may be missing.
+ *
+ * Refusals, in this order: URREZKALU_MALFORMED with a line of at least 1, for the status file; URREZKALU_MALFORMED with line 0, for a sheet that is no
+ * sheet; URREZKALU_INVALID, for the sheet's credentials; URREZKALU_NO_ROOM. The status file's line is that of its first fault: a wanted line that is
+ * malformed, or is not the next one due, which one that comes again never is; or the line after the last, where one is still due at the end. A line
+ * of 4294967295 or more is given as 4294967295. */
+uint64_t urrezkalu_compare_status(const uint8_t *status, size_t status_length, const uint8_t *sheet, size_t sheet_length, uint8_t *list,
+                                  size_t list_length);
+
 /* One of the codes above. */
 static inline uint32_t urrezkalu_code(uint64_t number)
 {
     return (uint32_t)(number >> 32);
 }
 
-/* The first line at fault, which is one more than the complete correct lines before it, for URREZKALU_MALFORMED of a plan or a sheet: 1 to 1296
- * of a plan, 1 to 16 of a sheet. 0 for the other codes. Of a text in names the number has no line, but a place: urrezkalu_place. */
+/* The first line at fault, for URREZKALU_MALFORMED of a plan, a sheet or a status file. Of a plan, 1 to 1296, and of a sheet, 1 to 16, it is one more
+ * than the complete correct lines before it. Of a status file it is 1 or more, and 4294967295 stands for that line or any greater one; where
+ * urrezkalu_compare_status has 0, it is the sheet beside it that is malformed. 0 for the other codes. Of a text in names the number has no line, but
+ * a place: urrezkalu_place. */
 static inline uint32_t urrezkalu_line(uint64_t number)
 {
     return urrezkalu_code(number) == URREZKALU_MALFORMED ? (uint32_t)(number & UINT32_MAX) : 0;
@@ -232,8 +265,8 @@ static inline uint32_t urrezkalu_place(uint64_t number)
     return urrezkalu_code(number) == URREZKALU_MALFORMED ? (uint32_t)(number & UINT32_MAX) : 0;
 }
 
-/* How much was written at the front of the buffer: the bytes of a report, a sheet, an attribute or a text in names, or the count of values. 0 where
- * the function refused, and for three empty sets in names. */
+/* How much was written at the front of the buffer: the bytes of a report, a sheet, an attribute, a text in names or a list, or the count of values. 0
+ * where the function refused, and for three empty sets in names. */
 static inline size_t urrezkalu_length(uint64_t number)
 {
     return urrezkalu_code(number) == URREZKALU_DONE ? (size_t)(number & UINT32_MAX) : 0;

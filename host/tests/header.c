@@ -16,6 +16,8 @@ static_assert(URREZKALU_LONGEST_NAMES == 748, "the longest sets in names");
 /* As the paper's forms of lines and of version 2 add up. */
 static_assert(URREZKALU_LONGEST_SHEET == 2 * (3 * 16 + 17) + 27 + 29 + 27 + 26 + 25 + 14 + 6, "the longest sheet, line by line");
 static_assert(URREZKALU_ATTRIBUTE_LENGTH == 5 * 4, "five words of an attribute");
+static_assert(URREZKALU_LONGEST_LIST == 3 * 27 + 28 + 44 + 46 + 44 + 43 + 42 + 8 + 36, "the longest list, line by line");
+static_assert(URREZKALU_LONGEST_LIST == 372, "the longest list");
 
 /* The places are in the order of a sheet's lines, of "attached, permitted, inheritable, effective bit", and of "permitted, inheritable, effective". */
 static_assert(URREZKALU_RUID == 0 && URREZKALU_EUID == 1 && URREZKALU_SUID == 2 && URREZKALU_FSUID == 3, "the places of the user IDs");
@@ -57,8 +59,10 @@ static const struct number numbers[] = {
     {4, URREZKALU_DONE, 0, URREZKALU_FILE_VALUES},
     {15, URREZKALU_DONE, 0, URREZKALU_SHEET_VALUES},
     {20, URREZKALU_DONE, 0, URREZKALU_ATTRIBUTE_LENGTH},
+    {36, URREZKALU_DONE, 0, 36},
     {274, URREZKALU_DONE, 0, 274},
     {284, URREZKALU_DONE, 0, URREZKALU_LONGEST_SHEET},
+    {372, URREZKALU_DONE, 0, URREZKALU_LONGEST_LIST},
     {748, URREZKALU_DONE, 0, URREZKALU_LONGEST_NAMES},
     {10268, URREZKALU_DONE, 0, URREZKALU_LONGEST_REPORT},
     {4294967295, URREZKALU_DONE, 0, 4294967295},
@@ -161,6 +165,28 @@ static void expect_words(void)
     }
 }
 
+/* A status text: none; beside no sheet; with no room; and with a list of two lines. */
+static void expect_comparisons(void)
+{
+    static const char status[] = "Uid:\t0\t0\t0\t0\nCapInh:\t0000000000000000\nCapPrm:\t0000000000000000\nCapEff:\t0000000000000000\n"
+                                 "CapBnd:\t000001ffffffffff\nCapAmb:\t0000000000000000\nNoNewPrivs:\t1\n";
+    static const char sheet[] = "ruid=0\neuid=0\nsuid=0\nfsuid=0\nrgid=0\negid=0\nsgid=0\nfsgid=0\n"
+                                "permitted=0000000000000000\ninheritable=0000000000000000\neffective=0000000000000000\n"
+                                "bounding=000001ffffffffff\nambient=0000000000000000\nsecurebits=00\nnnp=0\n";
+    static const char expected[] = "nnp 0 1\nnot compared: securebits, group IDs\n";
+    const uint8_t *text = (const uint8_t *)status;
+    const uint8_t *prediction = (const uint8_t *)sheet;
+    size_t text_length = sizeof status - 1;
+    size_t prediction_length = sizeof sheet - 1;
+    uint8_t list[URREZKALU_LONGEST_LIST];
+    expect_answer(urrezkalu_compare_status(NULL, 0, NULL, 0, NULL, 0), 300647710721, "comes back for an empty status text, malformed at line 1");
+    expect_answer(urrezkalu_compare_status(text, text_length, NULL, 0, list, sizeof list), 300647710720, "comes back beside an empty sheet");
+    expect_answer(urrezkalu_compare_status(text, text_length, prediction, prediction_length, NULL, 0), 120259084288, "comes back for a list with no room");
+    uint64_t number = urrezkalu_compare_status(text, text_length, prediction, prediction_length, list, sizeof list);
+    expect_answer(number, 44, "comes back for a list of two lines");
+    expect(urrezkalu_length(number) == 44 && memcmp(list, expected, sizeof expected - 1) == 0, number, "bytes are not the list of two lines");
+}
+
 int main(void)
 {
     for (size_t length = 0; length < sizeof report; length++) {
@@ -180,6 +206,7 @@ int main(void)
     expect_answer(urrezkalu_read_names(NULL, 0, NULL, 0), 120259084288, "comes back for an empty text in names, to be read into no room");
     expect_answer(urrezkalu_write_names(0, 0, 0, NULL, 0), 0, "comes back for empty sets in names, which need no room");
     expect_answer(urrezkalu_write_names(0, 0, 0x20000000000, NULL, 0), 94489280512, "comes back for capability 41 in names, which is out of range");
+    expect_comparisons();
     printf("header: %zu of %zu numbers as expected\n", tried - faults, tried);
     return faults == 0 ? 0 : 1;
 }
