@@ -1,10 +1,11 @@
-/* The place of a fault where it no longer fits 32 bits: a text in names of more than 4 GiB, blanks and then a `+`.
+/* The place and the line of a fault where they no longer fit 32 bits: a text in names of more than 4 GiB, blanks and then a `+`; and a status text of
+ * as many lines, which are empty.
  *
- *     far_place          reads one such text, which takes some seconds
- *     far_place --all    reads those about the edge too: the last place that is told as it is, and the next two
+ *     far_place          reads one such text of each kind, which takes some seconds
+ *     far_place --all    reads those about the edge too: the last place and line that are told as they are, and the next two
  *
- * One block of blanks is mapped again and again, so that the text takes little memory. Where the system has no such block, or no room for so many
- * addresses, this is said and nothing is tried. */
+ * The blanks are newlines, which end an empty line of a status text each. One block of them is mapped again and again, so that the text takes little
+ * memory. Where the system has no such block, or no room for so many addresses, this is said and nothing is tried. */
 #define _GNU_SOURCE
 #include "../include/urrezkalu.h"
 
@@ -32,6 +33,24 @@ static const struct {
     {4294967296, 4294967295},
 };
 
+/* How many newlines stand before what ends the status text, and the line that comes back. Where nothing stands there, Uid is due at the line after
+ * the last; and a CapInh is not due. */
+static const struct {
+    size_t newlines;
+    const char *end;
+    uint32_t line;
+} status_texts[] = {
+    {4294967307, "", 4294967295},
+    {4294967293, "", 4294967294},
+    {4294967294, "", 4294967295},
+    {4294967295, "", 4294967295},
+    {4294967296, "", 4294967295},
+    {4294967293, "CapInh:", 4294967294},
+    {4294967294, "CapInh:", 4294967295},
+    {4294967295, "CapInh:", 4294967295},
+    {4294967307, "CapInh:", 4294967295},
+};
+
 /* Ends the program, with nothing tried. */
 _Noreturn static void pass_over(const char *what)
 {
@@ -50,7 +69,7 @@ static int block_of_blanks(void)
     if (block == MAP_FAILED) {
         pass_over("a file in memory cannot be mapped");
     }
-    memset(block, ' ', BLOCK);
+    memset(block, '\n', BLOCK);
     munmap(block, BLOCK);
     return file;
 }
@@ -74,28 +93,54 @@ static uint8_t *many_blanks(void)
     return text;
 }
 
-int main(int argc, char **argv)
+/* Whether the text in names has its place. */
+static int has_place(uint8_t *text, size_t blanks, uint32_t place)
 {
     static const uint64_t before[URREZKALU_NAMED_VALUES] = {1, 2, 3};
+    uint64_t values[URREZKALU_NAMED_VALUES];
+    memcpy(values, before, sizeof values);
+    text[blanks] = '+';
+    uint64_t number = urrezkalu_read_names(text, blanks + 1, values, URREZKALU_NAMED_VALUES);
+    text[blanks] = '\n';
+    if (urrezkalu_code(number) == URREZKALU_MALFORMED && urrezkalu_place(number) == place && memcmp(values, before, sizeof values) == 0) {
+        return 1;
+    }
+    printf("far_place: after %zu blanks: %#llx came back, or a value has changed\n", blanks, (unsigned long long)number);
+    return 0;
+}
+
+/* Whether the status text has its line. */
+static int has_line(uint8_t *text, size_t newlines, const char *end, uint32_t line)
+{
+    static const uint8_t before[URREZKALU_LONGEST_LIST] = {1, 2, 3};
+    uint8_t list[URREZKALU_LONGEST_LIST];
+    memcpy(list, before, sizeof list);
+    memcpy(text + newlines, end, strlen(end));
+    uint64_t number = urrezkalu_compare_status(text, newlines + strlen(end), NULL, 0, list, sizeof list);
+    memset(text + newlines, '\n', strlen(end));
+    if (urrezkalu_code(number) == URREZKALU_MALFORMED && urrezkalu_line(number) == line && memcmp(list, before, sizeof list) == 0) {
+        return 1;
+    }
+    printf("far_place: after %zu newlines and `%s`: %#llx came back, or a byte has changed\n", newlines, end, (unsigned long long)number);
+    return 0;
+}
+
+int main(int argc, char **argv)
+{
     if (argc > 2 || (argc == 2 && strcmp(argv[1], "--all") != 0)) {
         fprintf(stderr, "usage: far_place [--all]\n");
         return 2;
     }
-    size_t count = argc == 2 ? sizeof texts / sizeof texts[0] : 1;
+    size_t places = argc == 2 ? sizeof texts / sizeof texts[0] : 1;
+    size_t lines = argc == 2 ? sizeof status_texts / sizeof status_texts[0] : 1;
     size_t right = 0;
     uint8_t *text = many_blanks();
-    for (size_t i = 0; i < count; i++) {
-        uint64_t values[URREZKALU_NAMED_VALUES];
-        memcpy(values, before, sizeof values);
-        text[texts[i].blanks] = '+';
-        uint64_t number = urrezkalu_read_names(text, texts[i].blanks + 1, values, URREZKALU_NAMED_VALUES);
-        text[texts[i].blanks] = ' ';
-        if (urrezkalu_code(number) == URREZKALU_MALFORMED && urrezkalu_place(number) == texts[i].place && memcmp(values, before, sizeof values) == 0) {
-            right++;
-        } else {
-            printf("far_place: after %zu blanks: %#llx came back, or a value has changed\n", texts[i].blanks, (unsigned long long)number);
-        }
+    for (size_t i = 0; i < places; i++) {
+        right += (size_t)has_place(text, texts[i].blanks, texts[i].place);
     }
-    printf("far_place: %zu of %zu places as expected\n", right, count);
-    return right == count ? 0 : 1;
+    for (size_t i = 0; i < lines; i++) {
+        right += (size_t)has_line(text, status_texts[i].newlines, status_texts[i].end, status_texts[i].line);
+    }
+    printf("far_place: %zu of %zu places and lines as expected\n", right, places + lines);
+    return right == places + lines ? 0 : 1;
 }

@@ -181,7 +181,7 @@ static void expect_comparisons(void)
     uint8_t list[URREZKALU_LONGEST_LIST];
     expect_answer(urrezkalu_compare_status(NULL, 0, NULL, 0, NULL, 0), 300647710721, "comes back for an empty status text, malformed at line 1");
     expect_answer(urrezkalu_compare_status(text, text_length, NULL, 0, list, sizeof list), 300647710720, "comes back beside an empty sheet");
-    expect_answer(urrezkalu_compare_status(text, text_length, prediction, prediction_length, NULL, 0), 120259084288, "comes back for a list with no room");
+    expect_answer(urrezkalu_compare_status(text, text_length, prediction, prediction_length, NULL, 0), 120259084288, "comes back without room");
     uint64_t number = urrezkalu_compare_status(text, text_length, prediction, prediction_length, list, sizeof list);
     expect_answer(number, 44, "comes back for a list of two lines");
     expect(urrezkalu_length(number) == 44 && memcmp(list, expected, sizeof expected - 1) == 0, number, "bytes are not the list of two lines");
