@@ -31,16 +31,18 @@ void unmap_guarded(struct guarded pages);
 void allow(struct guarded pages, int protection);
 
 /* The functions of the header. */
-enum function { RUN_PLAN, READ_SHEET, WRITE_SHEET, READ_ATTRIBUTE, WRITE_ATTRIBUTE, READ_NAMES, WRITE_NAMES, FUNCTIONS };
+enum function { RUN_PLAN, READ_SHEET, WRITE_SHEET, READ_ATTRIBUTE, WRITE_ATTRIBUTE, READ_NAMES, WRITE_NAMES, COMPARE_STATUS, FUNCTIONS };
 
 /* A call of any of them, with what it reads and what it may write as bytes. What urrezkalu_write_attribute and urrezkalu_write_names have for an
- * input are their operands. */
+ * input are their operands. urrezkalu_compare_status alone has a sheet beside its input. */
 struct call {
     enum function function;
     const uint8_t *input;
     size_t input_length;
     uint8_t *output;
     size_t output_length;
+    const uint8_t *sheet;
+    size_t sheet_length;
 };
 
 /* What makes the calls: the library, or in the self-test one that does something wrong. */
@@ -59,18 +61,22 @@ uint32_t refusal_of(enum function function);
 /* Where input and output of a run are. The pages come first: there a stray access has no way to spoil the heap unseen. */
 enum place { AT_THE_END, AT_THE_START, ON_THE_HEAP, PLACES };
 
-/* An input with pages of its own for each place but the heap, the pages for an output, what stands where nothing is written, and what has been
- * counted. */
+/* An input and a sheet with pages of their own for each place but the heap, the pages for an output, what stands where nothing is written, and what
+ * has been counted. */
 struct bench {
     caller *call;
     const uint8_t *input;
     size_t input_length;
     struct guarded input_pages[ON_THE_HEAP];
+    const uint8_t *sheet;
+    size_t sheet_length;
+    struct guarded sheet_pages[ON_THE_HEAP];
     struct guarded output_pages;
     uint8_t *patterns[PLACES];
     size_t texts;
     size_t attributes;
     size_t names;
+    size_t statuses;
     size_t done[FUNCTIONS]; /* The inputs with which each function was done, and those that it refused. */
     size_t refused[FUNCTIONS];
     size_t runs;
@@ -89,6 +95,9 @@ void name_the_last_run(void);
 /* Lays the input down for the next runs, in pages that cannot be written. */
 void lay_down(struct bench *bench, const uint8_t *input, size_t input_length);
 
+/* Lays the sheet down that stands beside the input of urrezkalu_compare_status, likewise. */
+void lay_beside(struct bench *bench, const uint8_t *sheet, size_t sheet_length);
+
 /* A function on the input that is laid down, and what it came to in its first run, which has room for all that it can write. */
 struct trial {
     enum function function;
@@ -102,7 +111,8 @@ bool try_function(struct bench *bench, struct trial *trial, enum function functi
 /* Counts a fault of the input and the function that were tried last, unless all is right. */
 void expect(struct bench *bench, bool right, const char *what);
 
-/* Runs a text: as a plan, as a sheet and as one in names, its first fifteen lines as a sheet, and the values of that. */
+/* Runs a text: as a plan, as a sheet, as one in names and as a status text; its first fifteen lines as a sheet, also beside status texts; and the values
+ * of that. */
 void try_text(struct bench *bench, const char *name, size_t position, const uint8_t *text, size_t text_length);
 
 /* Runs the bytes as an attribute, and what they are read as. */
@@ -125,6 +135,18 @@ void try_sets(struct bench *bench, const uint64_t *sets);
 
 /* Runs texts in names, good and broken, and sets in range and out of it. */
 void try_names(struct bench *bench);
+
+/* Runs the text, which is laid down, as a status text beside the sheet. */
+void try_as_status(struct bench *bench, const uint8_t *text, size_t text_length, const uint8_t *sheet, size_t sheet_length);
+
+/* Runs status texts beside the sheet, after what the sheet reader came to with it. */
+void try_beside(struct bench *bench, const uint8_t *sheet, size_t sheet_length, const struct trial *reading);
+
+/* Runs a status text beside a sheet, which come to this number, and if they do not refuse it to this list. */
+void try_status(struct bench *bench, const char *text, size_t text_length, const char *sheet, size_t sheet_length, uint64_t number, const char *list);
+
+/* Runs status texts, good and broken, the good ones whole and cut at every byte, beside sheets, good and broken. */
+void try_statuses(struct bench *bench);
 
 /* Shows that stray accesses and wrong answers are caught: 0 if they all are. */
 int self_test(void);

@@ -34,7 +34,7 @@ static void try_operands(struct bench *bench, const uint64_t *operands, struct t
     if (in_range) {
         const uint64_t expected[URREZKALU_FILE_VALUES] = {1, operands[0], operands[1], operands[2]};
         uint64_t again[URREZKALU_FILE_VALUES];
-        const struct call reading = {READ_ATTRIBUTE, writing->output, URREZKALU_ATTRIBUTE_LENGTH, (uint8_t *)again, sizeof again};
+        const struct call reading = {READ_ATTRIBUTE, writing->output, URREZKALU_ATTRIBUTE_LENGTH, (uint8_t *)again, sizeof again, NULL, 0};
         expect(bench, bench->call(&reading) == URREZKALU_FILE_VALUES && memcmp(again, expected, sizeof again) == 0,
                "the attribute is not read as what was written");
     }

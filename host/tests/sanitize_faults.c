@@ -4,15 +4,12 @@
 #include <stdlib.h>
 #include <string.h>
 
-/* As the library is: not instrumented, so that the pages have to catch what these do. */
-#define UNSEEN __attribute__((no_sanitize("address"), no_sanitize("undefined"), noinline))
-
-UNSEEN static void read_at(const uint8_t *byte)
+UNSEEN void read_at(const uint8_t *byte)
 {
     (void)*(const volatile uint8_t *)byte;
 }
 
-UNSEEN static void write_at(const uint8_t *byte)
+UNSEEN void write_at(const uint8_t *byte)
 {
     *(volatile uint8_t *)(uintptr_t)byte ^= 1;
 }
@@ -318,12 +315,13 @@ const size_t mishaps_count = sizeof mishaps / sizeof mishaps[0];
 enum {
     ALL = (1 << FUNCTIONS) - 1,
     WITH_INPUT = ALL & ~(1 << WRITE_ATTRIBUTE | 1 << WRITE_NAMES), /* The operands of those are no buffer of theirs. */
-    WITH_LINES = 1 << RUN_PLAN | 1 << READ_SHEET,
+    WITH_LINES = 1 << RUN_PLAN | 1 << READ_SHEET | 1 << COMPARE_STATUS,
     READ_AGAIN = ALL & ~(1 << RUN_PLAN), /* Nothing here reads a report. */
     SHEET_READER = 1 << READ_SHEET,
     SHEET_WRITER = 1 << WRITE_SHEET,
     NAMES_READER = 1 << READ_NAMES,
-    NAMES_WRITER = 1 << WRITE_NAMES
+    NAMES_WRITER = 1 << WRITE_NAMES,
+    COMPARISON = 1 << COMPARE_STATUS
 };
 
 const struct fault faults[] = {
@@ -351,5 +349,22 @@ const struct fault faults[] = {
     {"tells the place after", tells_the_place_after, NAMES_READER, FOUND_BY_CHECK},
     {"reads the permitted set as the effective one", reads_permitted_as_effective, NAMES_READER, FOUND_BY_CHECK},
     {"writes the permitted set as the effective one", writes_permitted_as_effective, NAMES_WRITER, FOUND_BY_CHECK},
+    {"reads before the sheet", reads_before_sheet, COMPARISON, FAULT_IN_MEMORY},
+    {"reads past the sheet", reads_past_sheet, COMPARISON, FAULT_IN_MEMORY},
+    {"writes to the sheet", writes_to_sheet, COMPARISON, FAULT_IN_MEMORY},
+    {"follows a null pointer to a text", follows_null_text, COMPARISON, FAULT_IN_MEMORY},
+    {"follows a null pointer to a sheet", follows_null_sheet, COMPARISON, FAULT_IN_MEMORY},
+    {"tells the line after", tells_the_line_after, COMPARISON, FOUND_BY_CHECK},
+    {"has a line after the last newline", has_a_line_after_the_last_newline, COMPARISON, FOUND_BY_CHECK},
+    {"does not count empty lines", counts_no_empty_lines, COMPARISON, FOUND_BY_CHECK},
+    {"needs the last newline", needs_the_last_newline, COMPARISON, FOUND_BY_CHECK},
+    {"has a line for a malformed sheet", has_a_line_for_the_sheet, COMPARISON, FOUND_BY_CHECK},
+    {"reads the sheet first", reads_the_sheet_first, COMPARISON, FOUND_BY_CHECK},
+    {"asks first whether the sheet is valid", asks_first_if_valid, COMPARISON, FOUND_BY_CHECK},
+    {"takes a sheet that is not valid", takes_invalid, COMPARISON, FOUND_BY_CHECK},
+    {"exchanges predicted and found", exchanges_predicted_and_found, COMPARISON, FOUND_BY_CHECK},
+    {"leaves a key out", leaves_a_key_out, COMPARISON, FOUND_BY_CHECK},
+    {"leaves the last line out", leaves_the_last_line_out, COMPARISON, FOUND_BY_CHECK},
+    {"leaves the last line out where nothing differs", leaves_the_last_line_out_alone, COMPARISON, FOUND_BY_CHECK},
 };
 const size_t faults_count = sizeof faults / sizeof faults[0];

@@ -41,7 +41,7 @@ void try_sets(struct bench *bench, const uint64_t *sets)
     expect(bench, (urrezkalu_code(writing.number) == URREZKALU_DONE) == in_range, "what is in range is refused, or what is not is written");
     if (in_range) {
         uint64_t again[URREZKALU_NAMED_VALUES];
-        const struct call reading = {READ_NAMES, writing.output, urrezkalu_length(writing.number), (uint8_t *)again, sizeof again};
+        const struct call reading = {READ_NAMES, writing.output, urrezkalu_length(writing.number), (uint8_t *)again, sizeof again, NULL, 0};
         expect(bench, bench->call(&reading) == URREZKALU_NAMED_VALUES && memcmp(again, sets, sizeof again) == 0,
                "the text is not read as what was written");
     }

@@ -12,7 +12,8 @@
 static const char *const endings[] = {"a fault in memory", "an end by the sanitizers", "a fault that was counted", "no fault"};
 
 /* A sheet, with the values in it changed in all ways; the same cut short; a plan. Attributes: none, of both versions, and an unreadable one. Texts in
- * names: a good one, and so its sets, and a broken one; and sets that are out of range. */
+ * names: a good one, and so its sets, and a broken one; and sets that are out of range. Status texts: one from which the sheet differs in two keys and
+ * one from which it does not; faults after an empty line, at a wanted line and at the end; none; and beside no sheet and one that is not valid. */
 void try_inputs(struct bench *bench)
 {
     static const char plan[] = "ruid=1\neuid=2\nsuid=3\nfsuid=4\nrgid=5\negid=6\nsgid=7\nfsgid=8\n"
@@ -25,6 +26,16 @@ void try_inputs(struct bench *bench)
     static const char malformed[] = "cap_kill=e cap_chown";
     static const uint64_t in_range[URREZKALU_NAMED_VALUES] = {0x1, 0x20, 0x20};
     static const uint64_t out_of_range[URREZKALU_NAMED_VALUES] = {0, 0, 0x20000000000};
+    static const char sets[] = "\nCapInh:\t0000000000000006\nCapPrm:\t0000000000000007\nCapEff:\t0000000000000003\nCapBnd:\t000001ffffffffff\n"
+                               "CapAmb:\t0000000000000002\nNoNewPrivs:\t0";
+    static const char invalid[] = "ruid=1\neuid=2\nsuid=3\nfsuid=4\nrgid=5\negid=6\nsgid=7\nfsgid=4294967295\n"
+                                  "permitted=0000000000000007\ninheritable=0000000000000006\neffective=0000000000000003\n"
+                                  "bounding=000001ffffffffff\nambient=0000000000000002\nsecurebits=01\nnnp=0\n";
+    static const uint64_t malformed_number = (uint64_t)URREZKALU_MALFORMED << 32;
+    char same[256];
+    char other[256];
+    size_t same_length = (size_t)snprintf(same, sizeof same, "Uid:\t1\t2\t3\t4%s", sets);
+    size_t other_length = (size_t)snprintf(other, sizeof other, "Uid:\t1\t4\t3\t2%s\n", sets);
     for (unsigned way = 0; way < 36; way++) {
         try_text(bench, "self-test", 0, (const uint8_t *)plan, sheet_length);
     }
@@ -37,6 +48,14 @@ void try_inputs(struct bench *bench)
     try_named_text(bench, "cap_chown=p cap_kill=ei", in_range);
     try_malformed_text(bench, malformed, sizeof malformed, sizeof malformed - 1);
     try_sets(bench, out_of_range);
+    try_status(bench, same, same_length, plan, sheet_length, 0, "not compared: securebits, group IDs\n");
+    try_status(bench, other, other_length, plan, sheet_length, 0, "euid 2 4\nfsuid 4 2\nnot compared: securebits, group IDs\n");
+    try_status(bench, "\n\nCapInh:\n", 10, plan, sheet_length, malformed_number | 3, NULL);
+    try_status(bench, "Name:\tx\n", 8, invalid, sizeof invalid - 1, malformed_number | 2, NULL);
+    try_status(bench, "Name:\tx\n", 8, plan, sheet_length - 1, malformed_number | 2, NULL);
+    try_status(bench, NULL, 0, plan, sheet_length, malformed_number | 1, NULL);
+    try_status(bench, same, same_length, NULL, 0, malformed_number, NULL);
+    try_status(bench, same, same_length, invalid, sizeof invalid - 1, (uint64_t)URREZKALU_INVALID << 32, NULL);
 }
 
 /* What a child has to do: a mishap, or, if there is none, inputs with a fault in that function. */

@@ -1,4 +1,5 @@
-/* The texts of sanitize.c: run as plans, read as sheets and as texts in names; and the values that are read of a sheet, written again. */
+/* The texts of sanitize.c: run as plans, read as sheets, as texts in names and as status texts; and the values that are read of a sheet, written again
+ * and laid beside. */
 #include "sanitize.h"
 
 #include <string.h>
@@ -56,7 +57,7 @@ static void try_values_changed(struct bench *bench, const uint64_t *values)
     }
     expect(bench, count == URREZKALU_SHEET_VALUES, "a sheet has fifteen values");
     uint64_t again[URREZKALU_SHEET_VALUES];
-    const struct call reading = {READ_SHEET, writing.output, urrezkalu_length(writing.number), (uint8_t *)again, sizeof again};
+    const struct call reading = {READ_SHEET, writing.output, urrezkalu_length(writing.number), (uint8_t *)again, sizeof again, NULL, 0};
     expect(bench, bench->call(&reading) == URREZKALU_SHEET_VALUES && memcmp(again, changed, sizeof again) == 0,
            "the sheet is not read as what was written");
 }
@@ -79,6 +80,7 @@ static void try_sheet(struct bench *bench, const uint8_t *text, size_t sheet_len
         try_values_read(bench, values, text, sheet_length);
         try_values_changed(bench, values);
     }
+    try_beside(bench, text, sheet_length, &reading);
 }
 
 void try_text(struct bench *bench, const char *name, size_t position, const uint8_t *text, size_t text_length)
@@ -98,6 +100,7 @@ void try_text(struct bench *bench, const char *name, size_t position, const uint
     if (try_function(bench, &naming, READ_NAMES) && urrezkalu_line(running.number) != 1) {
         expect(bench, naming.number == (uint64_t)URREZKALU_MALFORMED << 32, "a sheet's first line is read in names");
     }
+    try_as_status(bench, text, text_length, text, sheet_length == 0 ? text_length : sheet_length);
     if (sheet_length != 0) {
         try_sheet(bench, text, sheet_length, running.number);
     }
