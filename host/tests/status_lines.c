@@ -17,13 +17,13 @@ static const struct {
     const char *text;
     size_t length;
 } unwanted[] = {
-    {TEXT("")},           {TEXT("x")},           {TEXT("Name:\tcat")},    {TEXT("Gid:\t0\t0\t0\t0")}, {TEXT("CapSet:\t0")},
-    {TEXT("Uid")},        {TEXT("Ui")},          {TEXT("Uid\t0\t0\t0\t0")}, {TEXT("Uid 0")},          {TEXT("Uid=0")},
-    {TEXT(" Uid:\t0")},   {TEXT("\tUid:\t0")},   {TEXT("uid:\t0")},       {TEXT("UID:\t0")},          {TEXT("Uids:\t0")},
-    {TEXT("Uid :\t0")},   {TEXT("EUid:\t0")},    {TEXT("CapInh")},        {TEXT("CapInhX:\t0")},      {TEXT("CapPrm\0:\t0")},
-    {TEXT("Capeff:\t0")}, {TEXT("CapBnd\xff:")}, {TEXT("CapAm:\t0")},     {TEXT("NoNewPriv:\t0")},    {TEXT("NoNewPrivs")},
-    {TEXT("\0")},         {TEXT("\0Uid:\t0")},   {TEXT("\xff")},          {TEXT("\xffUid:\t0")},      {TEXT("\r")},
-    {TEXT(":")},          {TEXT("::Uid:")},      {TEXT("x Uid:\t0")},     {TEXT("Cap\0Inh:\t0")},     {TEXT("Name:\tUid:\t0")},
+    {TEXT("")},           {TEXT("x")},           {TEXT("Name:\tcat")},      {TEXT("Gid:\t0\t0\t0\t0")}, {TEXT("CapSet:\t0")},
+    {TEXT("Uid")},        {TEXT("Ui")},          {TEXT("Uid\t0\t0\t0\t0")}, {TEXT("Uid 0")},            {TEXT("Uid=0")},
+    {TEXT(" Uid:\t0")},   {TEXT("\tUid:\t0")},   {TEXT("uid:\t0")},         {TEXT("UID:\t0")},          {TEXT("Uids:\t0")},
+    {TEXT("Uid :\t0")},   {TEXT("EUid:\t0")},    {TEXT("CapInh")},          {TEXT("CapInhX:\t0")},      {TEXT("CapPrm\0:\t0")},
+    {TEXT("Capeff:\t0")}, {TEXT("CapBnd\xff:")}, {TEXT("CapAm:\t0")},       {TEXT("NoNewPriv:\t0")},    {TEXT("NoNewPrivs")},
+    {TEXT("\0")},         {TEXT("\0Uid:\t0")},   {TEXT("\xff")},            {TEXT("\xffUid:\t0")},      {TEXT("\r")},
+    {TEXT(":")},          {TEXT("::Uid:")},      {TEXT("x Uid:\t0")},       {TEXT("Cap\0Inh:\t0")},     {TEXT("Name:\tUid:\t0")},
 };
 enum { UNWANTED = sizeof unwanted / sizeof unwanted[0] };
 
@@ -43,13 +43,13 @@ static void append(struct text *text, const char *bytes, size_t length)
     text->length += length;
 }
 
-/* A list beside the sheet in which no two values are alike, with room for any. */
+/* Beside the sheet in which no two values are alike, with room for any list: this one, */
 static void expect_one_list(const char *what, const char *text, size_t length, const char *list)
 {
     expect_call(what, text, length, predictions[APART], strlen(predictions[APART]), URREZKALU_LONGEST_LIST, strlen(list), list);
 }
 
-/* A fault there. */
+/* or a fault at this line. */
 static void expect_one_fault(const char *what, const char *text, size_t length, uint32_t line)
 {
     const char *sheet = predictions[APART];
@@ -116,9 +116,9 @@ static void try_near_names(void)
 
 /* What a byte of a whole text is: of a name or its colon, of a value, or one that parts these. */
 struct site {
-    size_t which;      /* The wanted line, from 0. */
-    size_t column;     /* In that line. */
-    size_t value;      /* Which value of the line, and from where to where in the line, if it is a digit. */
+    size_t which;  /* The wanted line, from 0. */
+    size_t column; /* In that line. */
+    size_t value;  /* For a digit: which value of the line, from 0, and where in the line that is. */
     size_t first;
     size_t past;
     int is_name;
