@@ -35,6 +35,14 @@ mod c {
             text: *mut u8,
             text_length: usize,
         ) -> u64;
+        pub fn urrezkalu_compare_status(
+            status: *const u8,
+            status_length: usize,
+            sheet: *const u8,
+            sheet_length: usize,
+            list: *mut u8,
+            list_length: usize,
+        ) -> u64;
     }
 }
 
@@ -54,7 +62,7 @@ mod c {
 /// let _ = urrezkalu::interface::run_plan(&bytes, &mut bytes);
 /// ```
 ///
-/// In the other functions they are of different types besides.
+/// Nor can they in [`compare_status`]; in the other functions they are of different types besides.
 #[must_use]
 pub fn run_plan(plan: &[u8], report: &mut [u8]) -> u64 {
     unsafe { c::urrezkalu_run_plan(plan.as_ptr(), plan.len(), report.as_mut_ptr(), report.len()) }
@@ -155,4 +163,36 @@ pub fn read_names(text: &[u8], values: &mut [u64]) -> u64 {
 #[must_use]
 pub fn write_names(permitted: u64, inheritable: u64, effective: u64, text: &mut [u8]) -> u64 {
     unsafe { c::urrezkalu_write_names(permitted, inheritable, effective, text.as_mut_ptr(), text.len()) }
+}
+
+/// `urrezkalu_compare_status`: 70 and the line, 70 and 0 where the sheet is malformed, 72, 28, or 0 and the list's length. See
+/// [`crate::compare_status`].
+///
+/// ```
+/// let status = b"Name:\tlog\nUid:\t0\t0\t0\t0\n\
+///     CapInh:\t0000000000000000\nCapPrm:\t0000000000002000\nCapEff:\t0000000000000000\n\
+///     CapBnd:\t0000000000000000\nCapAmb:\t0000000000000000\nNoNewPrivs:\t0\n";
+/// let sheet = b"ruid=0\neuid=0\nsuid=0\nfsuid=0\nrgid=0\negid=0\nsgid=0\nfsgid=0\n\
+///     permitted=0000000000000000\ninheritable=0000000000000000\neffective=0000000000000000\n\
+///     bounding=0000000000000000\nambient=0000000000000000\nsecurebits=00\nnnp=0\n";
+/// let mut list = [0xff; 81];
+/// assert_eq!(urrezkalu::interface::compare_status(status, sheet, &mut list), 80);
+/// assert_eq!(list[..44], *b"permitted 0000000000000000 0000000000002000\n");
+/// assert_eq!(list[44..], *b"not compared: securebits, group IDs\n\xff");
+///
+/// assert_eq!(urrezkalu::interface::compare_status(b"", sheet, &mut list), 70 << 32 | 1);
+/// assert_eq!(urrezkalu::interface::compare_status(status, b"", &mut list), 70 << 32);
+/// assert_eq!(urrezkalu::interface::compare_status(status, sheet, &mut list[..79]), 28 << 32);
+/// ```
+///
+/// What is read and what is written cannot overlap:
+///
+/// ```compile_fail,E0502
+/// let mut bytes = [0; 16];
+/// let _ = urrezkalu::interface::compare_status(&bytes, b"", &mut bytes);
+/// ```
+#[must_use]
+pub fn compare_status(status: &[u8], sheet: &[u8], list: &mut [u8]) -> u64 {
+    let (text, predicted) = (status.as_ptr(), sheet.as_ptr());
+    unsafe { c::urrezkalu_compare_status(text, status.len(), predicted, sheet.len(), list.as_mut_ptr(), list.len()) }
 }

@@ -1,4 +1,4 @@
-//! The proved library, as safe Rust functions: plans, credential sheets, file attributes, and capability sets in names.
+//! The proved library, as safe Rust functions: plans, credential sheets, file attributes, capability sets in names, and status files.
 //!
 //! - A plan is a credential sheet and 0 to 256 steps, each a call that a thread makes. [`run_plan`] says what the calls answer and what the thread
 //!   holds after them, or why the plan is refused. [`results`] takes a report apart: what each step came to, and why it was refused.
@@ -6,6 +6,8 @@
 //! - An attribute is the bytes of a file's security.capability: [`read_attribute`] and [`write_attribute`].
 //! - A text in names stands for three capability sets, in the form of cap_text_formats(7), as `cap_net_raw+ep` does: [`read_names`] and
 //!   [`write_names`].
+//! - A status file is what a kernel says of a thread in /proc/PID/status. [`compare_status`] lays one beside predicted credentials and lists what
+//!   differs; [`differences`] takes a list apart.
 //!
 //! Every input gets an answer; nothing panics and nothing is allocated. Nothing is kept from one call to the next, so that any number of threads
 //! may call at once. A plan's run needs some 4.5 KiB of stack, the other functions less than 1.5 KiB.
@@ -33,12 +35,14 @@
 mod attribute;
 mod cause;
 mod credentials;
+mod differences;
 pub mod interface;
 mod names;
 mod number;
 mod plan;
 mod report;
 mod sheet;
+mod status;
 
 pub use attribute::{
     read_attribute, write_attribute, AttributeReading, AttributeWriting, FileCapabilities, ATTRIBUTE_LENGTH,
@@ -46,7 +50,9 @@ pub use attribute::{
 };
 pub use cause::Cause;
 pub use credentials::{Credentials, SHEET_VALUES};
+pub use differences::{differences, Difference, Differences, Key};
 pub use names::{read_names, write_names, NamedSets, NamesReading, NamesWriting, LONGEST_NAMES, NAMED_VALUES};
 pub use plan::{run_plan, Outcome, LONGEST_PLAN, LONGEST_REPORT};
 pub use report::{results, Results, StepResult};
 pub use sheet::{read_sheet, write_sheet, SheetReading, SheetWriting, LONGEST_SHEET};
+pub use status::{compare_status, StatusComparison, LONGEST_LIST};
