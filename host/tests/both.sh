@@ -1,5 +1,6 @@
 # For installers.sh, attribute_bytes.sh and capability_names.sh: an example in C and the same in Rust, run on the same arguments and input. Standard
-# output, standard error and status of both have to be what is expected, to the byte, and so the same.
+# output, standard error and status of both have to be what is expected, to the byte, and so the same. For compare_status.sh: an example that is in Rust
+# alone.
 set -eu
 export LC_ALL=C
 run=0
@@ -7,14 +8,35 @@ differ=0
 
 # start NAME C-PROGRAM RUST-PROGRAM: what to call this test, and what it runs; in an empty directory, from here on.
 start() {
-    name=$1
     c_program=$(realpath -- "$2")
     rust_program=$(realpath -- "$3")
+    from=' from both'
+    begin "$1" c rust
+}
+# start_rust NAME RUST-PROGRAM: the same without an example in C.
+start_rust() {
+    rust_program=$(realpath -- "$2")
+    from=
+    begin "$1" rust
+}
+begin() {
+    name=$1
+    shift
+    languages=$*
     work=$(mktemp -d)
     trap 'rm -rf "$work"' EXIT
-    mkdir "$work/here" "$work/expected" "$work/c" "$work/rust"
+    mkdir "$work/here" "$work/expected"
+    for language in $languages; do
+        mkdir "$work/$language"
+    done
     cd "$work/here"
     nothing_expected
+}
+program() {
+    case $1 in
+    c) echo "$c_program" ;;
+    rust) echo "$rust_program" ;;
+    esac
 }
 
 # What the next run has on standard input, a file's content; else it is nothing.
@@ -52,17 +74,16 @@ record() {
     "$@" <"$input" >"$work/$into/together" 2>&1 || true
 }
 
-# check WHAT STATUS ARGUMENT..: both programs with these arguments. What they read and have to write has been said before, and is forgotten after.
+# check WHAT STATUS ARGUMENT..: the programs with these arguments. What they read and have to write has been said before, and is forgotten after.
 check() {
     what=$1
     echo "$2" >"$work/expected/status"
     shift 2
     run=$((run + 1))
-    record c "$c_program" "$@"
-    record rust "$rust_program" "$@"
     same=true
-    for one in c rust; do
-        diff -r -- "$work/expected" "$work/$one" || same=false
+    for language in $languages; do
+        record "$language" "$(program "$language")" "$@"
+        diff -r -- "$work/expected" "$work/$language" || same=false
     done
     if ! $same; then
         echo "$name: $what: not as expected"
@@ -71,11 +92,12 @@ check() {
     nothing_expected
 }
 
-# Both programs with standard output, file descriptor 3, that cannot be written for this reason.
+# The programs with standard output, file descriptor 3, that cannot be written for this reason.
 unwritable() {
     reason=$1
     shift
-    for one in "$c_program" "$rust_program"; do
+    for language in $languages; do
+        one=$(program "$language")
         run=$((run + 1))
         status=0
         "$one" "$@" >&3 2>message || status=$?
@@ -102,6 +124,6 @@ check_unwritable() {
 }
 
 finish() {
-    echo "$name: $((run - differ)) of $run as expected from both"
+    echo "$name: $((run - differ)) of $run as expected$from"
     test "$differ" -eq 0
 }
