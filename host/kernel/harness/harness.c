@@ -4,8 +4,8 @@
  *
  * TAG names the run's mounts. Standard input, numbers in hex: `image COUNT` and COUNT lines `OWNER GROUP LENGTH BYTES`, the files whose attributes
  * setxattr(2) refuses; then any number of plans, each `plan STEPS`, a line of the start and STEPS lines of a step (see `read_start` and `read_step`).
- * Standard output: a line about the machine; then for each plan a line for the start and one for each step: errno, value and state. Status 2: the
- * machine is not as it has to be. */
+ * Standard output: a line about the machine; then for each plan a line for the start and one for each step: errno, value, state and the length of the
+ * thread's status file, whose text stands after the line. Status 2: the machine is not as it has to be. */
 #define _GNU_SOURCE
 #include <errno.h>
 #include <fcntl.h>
@@ -132,15 +132,22 @@ static void print_result(const struct result *result)
     print_ids(after->uids);
     print_ids(after->gids);
     printf(" %" PRIx64 " %" PRIx64 " %" PRIx64, after->permitted, after->inheritable, after->effective);
-    printf(" %" PRIx64 " %" PRIx64 " %" PRIx32 " %" PRIx32 "\n", after->bounding, after->ambient, after->securebits, after->nnp);
+    printf(" %" PRIx64 " %" PRIx64 " %" PRIx32 " %" PRIx32, after->bounding, after->ambient, after->securebits, after->nnp);
+    printf(" %zx\n", result->status.length);
+    fwrite(result->status.text, 1, result->status.length, stdout);
 }
 
+/* A result is more than a pipe hands over at once. */
 static void take_result(const struct worker *worker)
 {
-    struct result result;
-    if (read(worker->results, &result, sizeof result) != sizeof result) {
-        fprintf(stderr, "kernel: the thread ended in the middle of a plan\n");
-        _exit(2);
+    static struct result result;
+    for (size_t taken = 0; taken < sizeof result;) {
+        ssize_t more = read(worker->results, (char *)&result + taken, sizeof result - taken);
+        if (more <= 0) {
+            fprintf(stderr, "kernel: the thread ended in the middle of a plan\n");
+            _exit(2);
+        }
+        taken += (size_t)more;
     }
     print_result(&result);
 }
@@ -234,7 +241,8 @@ static void run_plan(uint32_t steps)
 static void print_machine(void)
 {
     struct state own;
-    read_state(&own);
+    static struct status status;
+    read_state(&own, &status);
     printf("machine %" PRIx64 " %" PRIx64 "\n", own.permitted, own.bounding);
     fflush(stdout);
 }

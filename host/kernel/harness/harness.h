@@ -8,7 +8,7 @@
 
 enum { REAL, EFFECTIVE, SAVED, FILESYSTEM, IDS };
 
-enum { LONGEST_ATTRIBUTE = 24, LONGEST_PATH = 64 };
+enum { LONGEST_ATTRIBUTE = 24, LONGEST_PATH = 64, LONGEST_STATUS = 16384 };
 
 /* The descriptors that a thread keeps over every launch: orders come in on one, results go out on the other. */
 enum { ORDERS = 3, RESULTS = 4 };
@@ -26,6 +26,12 @@ struct state {
     uint32_t securebits, nnp;
 };
 
+/* The text of a /proc/PID/status. A NUL stands after it. */
+struct status {
+    size_t length;
+    char text[LONGEST_STATUS];
+};
+
 /* One call for the thread to make; `path` is the file of a launch. */
 struct order {
     uint64_t operands[3];
@@ -33,11 +39,12 @@ struct order {
     char path[LONGEST_PATH];
 };
 
-/* What a call came to: 0 or errno, the value, and what the thread holds after it. */
+/* What a call came to: 0 or errno, the value, what the thread holds after it, and the text that says so. */
 struct result {
     uint64_t value;
     struct state after;
     uint32_t error, unused;
+    struct status status;
 };
 
 /* The file of a launch. `image` numbers a file of the image, whose owner, group and attribute are fixed; NONE is the file that can be changed. */
@@ -53,7 +60,7 @@ _Noreturn void give_up(const char *what);
 
 /* thread.c */
 _Noreturn void obey(void);
-void read_state(struct state *state);
+void read_state(struct state *state, struct status *status);
 int set_capabilities(uint64_t permitted, uint64_t inheritable, uint64_t effective);
 
 /* start.c */

@@ -39,7 +39,8 @@ static void set_ids(const char *what, long set_three, long set_filesystem, const
 void become(const struct state *start, uint32_t member)
 {
     struct state own;
-    read_state(&own);
+    static struct status status;
+    read_state(&own, &status);
     set_member(member);
     set_ids("setresgid", SYS_setresgid, SYS_setfsgid, start->gids);
     if (set_capabilities(own.permitted, start->inheritable, own.permitted) != 0) {

@@ -64,24 +64,33 @@ static void ids_line(const char *status, const char *key, uint32_t ids[IDS])
     }
 }
 
-void read_state(struct state *state)
+static void read_status(struct status *status)
 {
-    static char status[8192];
     int descriptor = open("/proc/self/status", O_RDONLY | O_CLOEXEC);
-    ssize_t length = read(descriptor, status, sizeof status - 1);
-    if (descriptor == -1 || length <= 0) {
+    ssize_t more;
+    status->length = 0;
+    while ((more = read(descriptor, status->text + status->length, sizeof status->text - 1 - status->length)) > 0) {
+        status->length += (size_t)more;
+    }
+    if (more == -1 || status->length == 0 || status->length == sizeof status->text - 1) {
         give_up("/proc/self/status");
     }
     close(descriptor);
-    status[length] = '\0';
-    ids_line(status, "\nUid:", state->uids);
-    ids_line(status, "\nGid:", state->gids);
-    state->permitted = hex_line(status, "\nCapPrm:");
-    state->inheritable = hex_line(status, "\nCapInh:");
-    state->effective = hex_line(status, "\nCapEff:");
-    state->bounding = hex_line(status, "\nCapBnd:");
-    state->ambient = hex_line(status, "\nCapAmb:");
-    state->nnp = (uint32_t)hex_line(status, "\nNoNewPrivs:");
+    status->text[status->length] = '\0';
+}
+
+void read_state(struct state *state, struct status *status)
+{
+    const char *text = status->text;
+    read_status(status);
+    ids_line(text, "\nUid:", state->uids);
+    ids_line(text, "\nGid:", state->gids);
+    state->permitted = hex_line(text, "\nCapPrm:");
+    state->inheritable = hex_line(text, "\nCapInh:");
+    state->effective = hex_line(text, "\nCapEff:");
+    state->bounding = hex_line(text, "\nCapBnd:");
+    state->ambient = hex_line(text, "\nCapAmb:");
+    state->nnp = (uint32_t)hex_line(text, "\nNoNewPrivs:");
     state->securebits = (uint32_t)syscall(SYS_prctl, PR_GET_SECUREBITS, 0, 0, 0, 0);
 }
 
@@ -175,7 +184,7 @@ static void tell(long returned)
     } else {
         result.value = (uint64_t)returned;
     }
-    read_state(&result.after);
+    read_state(&result.after, &result.status);
     if (write(RESULTS, &result, sizeof result) != sizeof result) {
         _exit(1);
     }

@@ -4,7 +4,7 @@ use crate::credentials::{Credentials, Ids, Outcome, Thread};
 use crate::image::{attribute_field, Image};
 use crate::step::{Plan, Step, Tracer, EXECVE, TRACED};
 use std::fmt::Write as _;
-use std::io::{self, BufRead, BufReader, Write};
+use std::io::{self, BufRead, BufReader, Read, Write};
 use std::process::{Child, ChildStdin, ChildStdout, Command, Stdio};
 
 const EINVAL: u32 = 22;
@@ -22,8 +22,14 @@ pub struct Harness {
 
 /// What the kernel did with a plan.
 pub struct Observation {
-    pub start: Thread,
-    pub outcomes: Vec<Outcome>,
+    pub start: Seen,
+    pub outcomes: Vec<Seen>,
+}
+
+/// What a step came to, and the text of the thread's status file after it. The start is a step that does nothing.
+pub struct Seen {
+    pub outcome: Outcome,
+    pub status: Vec<u8>,
 }
 
 impl Harness {
@@ -50,7 +56,7 @@ impl Harness {
     pub fn run(&mut self, plan: &Plan) -> io::Result<Observation> {
         self.input.write_all(plan_lines(plan).as_bytes())?;
         self.input.flush()?;
-        let start = self.outcome(&Step::default(), plan)?.after;
+        let start = self.outcome(&Step::default(), plan)?;
         let outcomes = plan.steps.iter().map(|step| self.outcome(step, plan)).collect::<io::Result<_>>()?;
         Ok(Observation { start, outcomes })
     }
@@ -75,7 +81,7 @@ impl Harness {
     }
 
     // EINVAL from execve(2) is the paper's 60: the file is as it should be but for its attribute.
-    fn outcome(&mut self, step: &Step, plan: &Plan) -> io::Result<Outcome> {
+    fn outcome(&mut self, step: &Step, plan: &Plan) -> io::Result<Seen> {
         let line = self.line()?;
         let mut numbers = numbers(&line);
         let (Some(error), Some(value)) = (numbers.next(), numbers.next()) else { return Err(malformed(&line)) };
@@ -85,7 +91,9 @@ impl Harness {
             EINVAL if step.call == EXECVE => UNREADABLE,
             code => code,
         };
-        Ok(Outcome { code, value, after })
+        let mut status = vec![0; numbers.next().ok_or_else(|| malformed(&line))? as usize];
+        self.output.read_exact(&mut status)?;
+        Ok(Seen { outcome: Outcome { code, value, after }, status })
     }
 }
 

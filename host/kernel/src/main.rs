@@ -20,6 +20,7 @@ mod launching;
 mod prediction;
 mod random;
 mod remains;
+mod status;
 mod step;
 mod tally;
 #[cfg(test)]
@@ -148,12 +149,12 @@ fn run_plan(told: &Told, harness: &mut Harness, mut plan: Plan, tally: &mut Tall
     });
     let seen = harness.run(&plan)?;
     match compare(told.known, &plan, &seen) {
-        Ok(verdicts) => {
+        Ok(comparison) => {
             if told.options.verbose {
-                print_explained(&plan, &verdicts);
+                print_explained(&plan, &comparison.verdicts);
             }
-            let codes: Vec<u32> = seen.outcomes.iter().map(|outcome| outcome.code).collect();
-            tally.plan(&plan, &codes, &verdicts);
+            let codes: Vec<u32> = seen.outcomes.iter().map(|seen| seen.outcome.code).collect();
+            tally.plan(&plan, &codes, &comparison);
         }
         Err(fault) => {
             tally.unexplained += 1;
@@ -183,6 +184,9 @@ fn print_fault(plan: &Plan, fault: &Fault) {
     }
     for (name, outcome) in &fault.outcomes {
         println!("{name}: {outcome:x?}");
+    }
+    for (name, list) in &fault.lists {
+        println!("{name}:\n{list}");
     }
     println!();
 }

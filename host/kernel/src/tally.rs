@@ -1,6 +1,6 @@
 //! What is counted over a run, and the summary at its end.
 
-use crate::comparison::Verdict;
+use crate::comparison::{Comparison, Verdict};
 use crate::departures::{Switches, ALL};
 use crate::step::{Plan, Step, EXECVE, NAMES};
 use std::collections::BTreeMap;
@@ -18,6 +18,9 @@ pub struct Tally {
     /// Plans with a step that is not explained.
     pub unexplained: u64,
     pub unreadable: u64,
+    /// Status files, and those of them that list something beside the library's prediction.
+    pub statuses: u64,
+    pub statuses_listing: u64,
     by_call: BTreeMap<u32, [u64; 3]>,
     by_flags: BTreeMap<u64, u64>,
     by_departure: [u64; ALL.len()],
@@ -26,8 +29,11 @@ pub struct Tally {
 
 impl Tally {
     /// Counts a plan that was run, with the codes of its steps.
-    pub fn plan(&mut self, plan: &Plan, codes: &[u32], verdicts: &[Verdict]) {
+    pub fn plan(&mut self, plan: &Plan, codes: &[u32], comparison: &Comparison) {
+        let Comparison { verdicts, statuses, listing } = comparison;
         self.plans += 1;
+        self.statuses += statuses;
+        self.statuses_listing += listing;
         self.plans_agreed += u64::from(verdicts.iter().all(|&verdict| verdict == Verdict::Agreed));
         for ((step, &code), &verdict) in plan.steps.iter().zip(codes).zip(verdicts) {
             self.step(step, code, verdict);
@@ -73,10 +79,13 @@ impl Tally {
 impl fmt::Display for Tally {
     fn fmt(&self, f: &mut fmt::Formatter<'_>) -> fmt::Result {
         let Tally { plans, plans_agreed, starts_cut, steps, agreed, explained, unexplained, unreadable, .. } = self;
+        let Tally { statuses, statuses_listing, .. } = self;
         writeln!(f, "{plans} plans, {plans_agreed} agreed in every step, the others up to their first difference")?;
         writeln!(f, "{starts_cut} of the fixed plans with their start cut to the machine's sets")?;
         writeln!(f, "{steps} steps: {agreed} agreed, {explained} explained; {unexplained} plans unexplained")?;
-        writeln!(f, "{unreadable} launches refused with EINVAL, which stands for 60\n")?;
+        writeln!(f, "{unreadable} launches refused with EINVAL, which stands for 60")?;
+        write!(f, "{statuses} status files read: beside the prediction {statuses_listing} list just the keys that ")?;
+        writeln!(f, "differ, the others the last line alone\n")?;
         writeln!(f, "{:<20}{:>9}{:>9}{:>9}{:>9}", "call", "steps", "done", "refused", "differ")?;
         for (&call, [all, done, differ]) in &self.by_call {
             writeln!(f, "{:<20}{all:>9}{done:>9}{:>9}{differ:>9}", NAMES[call as usize], all - done)?;

@@ -1,12 +1,13 @@
-//! The model without a machine: with every switch off it is the proved library, and each switch changes something.
+//! The model without a machine: with every switch off it is the proved library, and each switch changes something. And status files without one.
 
 use crate::calls::perform;
-use crate::credentials::{Thread, FULL, SECBITS_OF_THE_PAPER};
+use crate::credentials::{Credentials, Thread, FULL, SECBITS_OF_THE_PAPER};
 use crate::departures::{Switches, ALL};
 use crate::generator::Generator;
 use crate::image::Image;
 use crate::prediction;
 use crate::random::Random;
+use crate::status::{expected, list, LAST_LINE};
 use crate::step::{Plan, Step};
 
 const PLANS: u64 = 20_000;
@@ -47,4 +48,33 @@ fn every_switch_changes_something() {
     for departure in ALL {
         assert!(changed[departure as usize], "{}", departure.name());
     }
+}
+
+// As a kernel writes it, some lines left out.
+fn status_file(credentials: &Credentials) -> String {
+    let Credentials { uids, permitted, inheritable, effective, bounding, ambient, nnp, .. } = credentials;
+    format!(
+        "Name:\tlaunched\nUid:\t{}\t{}\t{}\t{}\nGid:\t0\t0\t0\t0\nCapInh:\t{inheritable:016x}\nCapPrm:\t{permitted:016x}\n\
+         CapEff:\t{effective:016x}\nCapBnd:\t{bounding:016x}\nCapAmb:\t{ambient:016x}\nNoNewPrivs:\t{}\nSeccomp:\t0\n",
+        uids.real,
+        uids.effective,
+        uids.saved,
+        uids.filesystem,
+        u8::from(*nnp)
+    )
+}
+
+#[test]
+fn a_status_file_lists_just_where_kernel_and_library_part() {
+    let (mut same, mut differ) = (0, 0);
+    for_each_step(9, |thread, step| {
+        let kernel = perform(Switches::EVERY, thread, step).after.credentials;
+        let library = prediction::outcome(thread, step).after.credentials;
+        let status = status_file(&kernel);
+        assert_eq!(list(&kernel, status.as_bytes()), LAST_LINE);
+        let listed = list(&library, status.as_bytes());
+        assert_eq!(listed, expected(&library, &kernel), "{thread:x?}\n{step:x?}");
+        *if listed == LAST_LINE { &mut same } else { &mut differ } += 1;
+    });
+    assert!(same > 0 && differ > 0, "{same} times nothing differs, {differ} times something");
 }
