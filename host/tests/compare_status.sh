@@ -28,8 +28,8 @@ agrees() {
     prints "$1: nothing differs"
 }
 
-# The examples: a log script that has raw I/O as its plan predicts, and not as the mended one does; one that is mended; a burner that has not yet dropped
-# SETUID and set no-new-privs.
+# The examples: a log script that has raw I/O as its plan predicts, and not as the mended one does; one that is mended; a burner that was started without
+# the drop of SETUID and without no-new-privs.
 cp "$examples"/*.plan "$examples"/status/*.status .
 agrees log-script.status
 prints "$not_compared"
