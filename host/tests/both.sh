@@ -1,6 +1,6 @@
 # For installers.sh, attribute_bytes.sh and capability_names.sh: an example in C and the same in Rust, run on the same arguments and input. Standard
-# output, standard error and status of both have to be what is expected, to the byte, and so the same. For compare_status.sh: an example that is in Rust
-# alone.
+# output, standard error and status of both have to be what is expected, to the byte, and so the same. For compare_status.sh: an example that is in
+# Rust alone.
 set -eu
 export LC_ALL=C
 run=0

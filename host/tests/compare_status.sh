@@ -1,6 +1,6 @@
 #!/bin/sh
-# Runs the example that lays status files beside a plan's prediction. Standard output, standard error and status have to be what is expected here, to the
-# byte. Files and expected lines are typed in from the paper, those of the examples from their workings.
+# Runs the example that lays status files beside a plan's prediction. Standard output, standard error and status have to be what is expected here, to
+# the byte. Files and expected lines are typed in from the paper, those of the examples from their workings.
 #
 #     compare_status.sh RUST-PROGRAM EXAMPLES
 #
@@ -28,8 +28,8 @@ agrees() {
     prints "$1: nothing differs"
 }
 
-# The examples: a log script that has raw I/O as its plan predicts, and not as the mended one does; one that is mended; a burner that was started without
-# the drop of SETUID and without no-new-privs.
+# The examples: a log script that has raw I/O as its plan predicts, and not as the mended one does; one that is mended; a burner that was started
+# without the drop of SETUID and without no-new-privs.
 cp "$examples"/*.plan "$examples"/status/*.status .
 agrees log-script.status
 prints "$not_compared"
@@ -51,7 +51,9 @@ prints "$not_compared"
 check 'the mended log script' 0 log-script-mended.plan log-script-mended.status
 burner() {
     says 'burner-start.plan:66: step 11 is refused: a needed capability is not effective'
-    prints 'burner.status: bounding is 000001ffffdeefff (all but cap_net_admin,cap_sys_module,cap_sys_admin), predicted 000001ffffdeef7f (all but cap_setuid,cap_net_admin,cap_sys_module,cap_sys_admin); more: cap_setuid'
+    found='000001ffffdeefff (all but cap_net_admin,cap_sys_module,cap_sys_admin)'
+    predicted='000001ffffdeef7f (all but cap_setuid,cap_net_admin,cap_sys_module,cap_sys_admin)'
+    prints "burner.status: bounding is $found, predicted $predicted; more: cap_setuid"
     prints 'burner.status: nnp is 0, predicted 1'
     prints "$not_compared"
 }
@@ -121,22 +123,27 @@ of_permitted='(cap_chown,cap_dac_override,cap_dac_read_search,cap_fowner,cap_fse
 shows "permitted is $none (none), predicted $permitted $of_permitted"
 status "$ids" 000001c00000003e $permitted $effective $full $ambient 1 >other
 of_inheritable='cap_dac_override,cap_dac_read_search,cap_fowner,cap_fsetid,cap_kill'
-shows "inheritable is 000001c00000003e ($of_inheritable,cap_perfmon,cap_bpf,cap_checkpoint_restore), predicted $inheritable ($of_inheritable); more: cap_perfmon,cap_bpf,cap_checkpoint_restore"
+shows "inheritable is 000001c00000003e ($of_inheritable,cap_perfmon,cap_bpf,cap_checkpoint_restore), predicted \
+$inheritable ($of_inheritable); more: cap_perfmon,cap_bpf,cap_checkpoint_restore"
 status "$ids" $inheritable $permitted 0000000000002000 $full $ambient 1 >other
-shows "effective is 0000000000002000 (cap_net_raw), predicted $effective (cap_chown,cap_dac_override,cap_net_raw); less: cap_chown,cap_dac_override"
+of_effective='cap_chown,cap_dac_override,cap_net_raw'
+shows "effective is 0000000000002000 (cap_net_raw), predicted $effective ($of_effective); less: cap_chown,cap_dac_override"
 status "$ids" $inheritable $permitted 000000000000e001 $full $ambient 1 >other
-shows "effective is 000000000000e001 (cap_chown,cap_net_raw,cap_ipc_lock,cap_ipc_owner), predicted $effective (cap_chown,cap_dac_override,cap_net_raw); more: cap_ipc_lock,cap_ipc_owner; less: cap_dac_override"
+shows "effective is 000000000000e001 (cap_chown,cap_net_raw,cap_ipc_lock,cap_ipc_owner), predicted $effective ($of_effective)\
+; more: cap_ipc_lock,cap_ipc_owner; less: cap_dac_override"
 status "$ids" $inheritable $permitted $effective 000001fffffdffff $ambient 1 >other
 shows "bounding is 000001fffffdffff (all but cap_sys_rawio), predicted $full (all); less: cap_sys_rawio"
 status "$ids" $inheritable $permitted $effective $none $ambient 1 >other
 shows "bounding is $none (none), predicted $full (all)"
 status "$ids" $inheritable $permitted $effective ffffffffffffffff $ambient 1 >other
-shows "bounding is ffffffffffffffff (all and fffffe0000000000, no capability of these 41), predicted $full (all); more: fffffe0000000000, no capability of these 41"
+above='no capability of these 41'
+shows "bounding is ffffffffffffffff (all and fffffe0000000000, $above), predicted $full (all); more: fffffe0000000000, $above"
 status "$ids" $inheritable $permitted $effective $full 0000020000000000 1 >other
 of_ambient='cap_dac_read_search,cap_fowner,cap_fsetid,cap_kill'
-shows "ambient is 0000020000000000 (0000020000000000, no capability of these 41), predicted $ambient ($of_ambient); more: 0000020000000000, no capability of these 41; less: $of_ambient"
+shows "ambient is 0000020000000000 (0000020000000000, $above), predicted $ambient ($of_ambient); more: 0000020000000000, $above\
+; less: $of_ambient"
 status "$ids" $inheritable $permitted $effective $full 800000000000003c 1 >other
-shows "ambient is 800000000000003c ($of_ambient and 8000000000000000, no capability of these 41), predicted $ambient ($of_ambient); more: 8000000000000000, no capability of these 41"
+shows "ambient is 800000000000003c ($of_ambient and 8000000000000000, $above), predicted $ambient ($of_ambient); more: 8000000000000000, $above"
 # Twenty capabilities are named, of twenty-one those that are missing.
 low='cap_chown,cap_dac_override,cap_dac_read_search,cap_fowner,cap_fsetid,cap_kill,cap_setgid,cap_setuid,cap_setpcap,cap_linux_immutable'
 low="$low,cap_net_bind_service,cap_net_broadcast,cap_net_admin,cap_net_raw,cap_ipc_lock,cap_ipc_owner,cap_sys_module,cap_sys_rawio"
@@ -152,9 +159,10 @@ shows "bounding is 00000000001fffff (all but $high), predicted $full (all); less
 # All ten keys, in the order of the sheet.
 status "0${tab}0${tab}0${tab}0" 0000000000000001 0000000000000002 $none 0000000000000004 $none 0 >other
 shows 'ruid is 0, predicted 2' 'euid is 0, predicted 20' 'suid is 0, predicted 30000' 'fsuid is 0, predicted 4294967294' \
-    "permitted is 0000000000000002 (cap_dac_override), predicted $permitted $of_permitted; less: cap_chown,cap_dac_read_search,cap_fowner,cap_fsetid,cap_kill,cap_net_raw" \
+    "permitted is 0000000000000002 (cap_dac_override), predicted $permitted $of_permitted\
+; less: cap_chown,cap_dac_read_search,cap_fowner,cap_fsetid,cap_kill,cap_net_raw" \
     "inheritable is 0000000000000001 (cap_chown), predicted $inheritable ($of_inheritable); more: cap_chown; less: $of_inheritable" \
-    "effective is $none (none), predicted $effective (cap_chown,cap_dac_override,cap_net_raw)" \
+    "effective is $none (none), predicted $effective ($of_effective)" \
     "bounding is 0000000000000004 (cap_dac_read_search), predicted $full (all); less: all but cap_dac_read_search" \
     "ambient is $none (none), predicted $ambient ($of_ambient)" 'nnp is 0, predicted 1'
 

@@ -4,11 +4,11 @@
 //! compare_status PLAN STATUS..
 //! ```
 //!
-//! PLAN is run, and what the thread then holds is laid beside each STATUS, a copy of a /proc/PID/status. With - in place of one of them standard input
-//! is read. For each file it goes to standard output what differs, a line for each key, with the capabilities' names beside the sets; or that nothing
-//! does. The last line says what is not compared. Why a file cannot be used goes to standard error, with file and line in the form that editors
-//! understand, and so does why a step of the plan is refused. Every status file is looked at, whatever the ones before it came to. The status is 0 if
-//! nothing differs in any, 1 if something does, and 2 if a file cannot be used, if the output cannot be written, or for other arguments.
+//! PLAN is run, and what the thread then holds is laid beside each STATUS, a copy of a /proc/PID/status. With - in place of one of them, standard
+//! input is read. What differs goes to standard output, with the file's name and a line for each key, capabilities' names beside the sets; or a line
+//! that nothing does. The last line says what is not compared. Why a file cannot be used goes to standard error, with file and line in the form that
+//! editors understand, and so does why a step of the plan is refused. Every status file is looked at, whatever the ones before it came to. The status
+//! is 0 if nothing differs in any, 1 if something does, and 2 if a file cannot be used, if the output cannot be written, or for other arguments.
 
 use std::env;
 use std::ffi::{OsStr, OsString};

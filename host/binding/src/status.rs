@@ -32,8 +32,8 @@ pub enum StatusComparison {
 }
 
 impl StatusComparison {
-    /// The code of this answer: 0 for a list, 70 for a malformed status file or sheet, 72 for predicted credentials that are not valid, 28 for a buffer
-    /// that is too short.
+    /// The code of this answer: 0 for a list, 70 for a malformed status file or sheet, 72 for predicted credentials that are not valid, 28 for a
+    /// buffer that is too short.
     ///
     /// ```
     /// assert_eq!(urrezkalu::StatusComparison::MalformedStatus { line: 9 }.code(), 70);
@@ -76,14 +76,14 @@ impl fmt::Display for StatusComparison {
 /// Lays `status`, the text of a /proc/PID/status, beside the credentials of `sheet`, and writes what differs at the front of `list`.
 ///
 /// Seven lines are wanted, in this order: Uid, CapInh, CapPrm, CapEff, CapBnd, CapAmb, NoNewPrivs. Each has its name, a colon, and its values in the
-/// sheet's digits, each after one tab; the last line's newline may be missing. Lines that begin otherwise are passed over, whatever bytes they hold. A
-/// found value need not be valid: an ID of 4294967295 and a bit above 40 are read and listed.
+/// sheet's digits, each after one tab; the last line's newline may be missing. Lines that begin otherwise are passed over, whatever bytes they hold.
+/// A found value need not be valid: an ID of 4294967295 and a bit above 40 are read and listed.
 ///
 /// The list has a line for each key whose values differ, in the order of the sheet: key, predicted value, found value. Its last line says what is not
 /// compared: the securebits, which a status file does not have, and the group IDs. [`differences`](crate::differences) takes a list apart.
 ///
-/// A refusal leaves every byte of `list` as it was, and the bytes past a list stay. What would be refused for several reasons is refused for the first of
-/// malformed status, malformed sheet, invalid, no room.
+/// A refusal leaves every byte of `list` as it was, and the bytes past a list stay. What would be refused for several reasons is refused for the first
+/// of malformed status, malformed sheet, invalid, no room.
 ///
 /// ```
 /// use urrezkalu::{compare_status, StatusComparison, LONGEST_LIST};

@@ -1,7 +1,7 @@
 //! Status files of the running kernel: this process's own, those of its children in other credentials, and those of every process that can be seen.
 //!
-//! What a child's file has to say is worked out by the paper's rules from what this process's own file says. A child that this process may not make is
-//! left out, and standard error says which and why.
+//! What a child's file has to say is worked out by the paper's rules from what this process's own file says. A child that this process may not make
+//! is left out, and standard error says which and why.
 
 mod children;
 mod values;

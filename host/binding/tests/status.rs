@@ -26,7 +26,7 @@ const SHEET: &str = "ruid=2\neuid=20\nsuid=30000\nfsuid=4294967294\nrgid=3\negid
     permitted=000001f0000000ff\ninheritable=0000010f0000003e\neffective=00000090000000c3\n\
     bounding=0000012345678900\nambient=000001000000003c\nsecurebits=ac\nnnp=1\n";
 
-/// The lines of a list where one value of the status file is another: the status file's line, with what stands for the value and what is found instead.
+/// One value of the status file is another: the place of its line, what stands for the value, what is found instead, and the list's line.
 const DIFFERING: [(usize, &str, &str, &str); 10] = [
     (0, "\t2\t", "\t4294967295\t", "ruid 2 4294967295\n"),
     (0, "\t20\t", "\t0\t", "euid 20 0\n"),
@@ -295,8 +295,8 @@ fn the_first_fault_counts() {
     malformed([uid, "CapInh:\n", uid, uid].concat().as_bytes(), 2);
 }
 
-// What is left of a line is a whole one, where it is all but the newline, or where digits of the last ID are missing; part of one, from the colon on; or,
-// before that, a line that is passed over.
+// What is left of a line is a whole one, where only the newline or digits of the last ID are missing; part of one, from the colon on; or, before that, a
+// line that is passed over.
 #[test]
 fn a_status_file_cut_anywhere() {
     let status = ["Name:\tx\n", &LINES.concat()].concat();

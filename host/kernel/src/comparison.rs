@@ -51,7 +51,7 @@ pub fn compare(known: Switches, plan: &Plan, seen: &Observation) -> Result<Compa
     if start.after != plan.start {
         return Err(Fault::new("the thread could not be put into the start", vec![("kernel", *start)]));
     }
-    lists(&plan.start.credentials, status, LAST_LINE.to_owned())?;
+    lists(&plan.start.credentials, status, LAST_LINE)?;
     let mut before = &start.after;
     let mut comparison = Comparison { verdicts: Vec::with_capacity(plan.steps.len()), statuses: 1, listing: 0 };
     for (place, (step, observed)) in plan.steps.iter().zip(&seen.outcomes).enumerate() {
@@ -67,7 +67,7 @@ pub fn compare(known: Switches, plan: &Plan, seen: &Observation) -> Result<Compa
 }
 
 // The library's list of the status file beside the credentials has to be this one.
-fn lists(predicted: &Credentials, status: &[u8], expected: String) -> Result<(), Fault> {
+fn lists(predicted: &Credentials, status: &[u8], expected: &str) -> Result<(), Fault> {
     let list = status::list(predicted, status);
     if list == expected {
         return Ok(());
@@ -75,7 +75,7 @@ fn lists(predicted: &Credentials, status: &[u8], expected: String) -> Result<(),
     let what = "the library does not list just what differs in the status file";
     let lists = vec![
         ("listed", list),
-        ("expected", expected),
+        ("expected", expected.to_owned()),
         ("beside", predicted.sheet()),
         ("status file", String::from_utf8_lossy(status).into_owned()),
     ];
@@ -97,20 +97,20 @@ fn compare_step(known: Switches, before: &Thread, step: &Step, seen: &Seen) -> R
     if kernel != *observed {
         return fault("what the kernel did is not explained", kernel);
     }
-    lists(&kernel.after.credentials, status, LAST_LINE.to_owned())?;
+    lists(&kernel.after.credentials, status, LAST_LINE)?;
     let Some(library) = library else { return Ok((Verdict::NoSheet, false)) };
     let paper = perform(Switches::NONE, before, step);
     if !paper.agrees(&library) {
         return fault("the model with every switch off is not what the library says", paper);
     }
     if observed.agrees(&library) {
-        lists(&library.after.credentials, status, LAST_LINE.to_owned())?;
+        lists(&library.after.credentials, status, LAST_LINE)?;
         return Ok((Verdict::Agreed, false));
     }
     let expected = status::expected(&library.after.credentials, &kernel.after.credentials);
-    let is_listing = expected != LAST_LINE;
-    lists(&library.after.credentials, status, expected)?;
-    Ok((Verdict::Explained(known.fewest(|fewer| perform(fewer, before, step).agrees(observed))), is_listing))
+    lists(&library.after.credentials, status, &expected)?;
+    let fewest = known.fewest(|fewer| perform(fewer, before, step).agrees(observed));
+    Ok((Verdict::Explained(fewest), expected != LAST_LINE))
 }
 
 fn whole(plan: &Plan, seen: &Observation, verdicts: &[Verdict]) -> Result<(), Fault> {
