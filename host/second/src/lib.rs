@@ -4,7 +4,8 @@
 //! [`perform`] answers one call, with the cause where its rules do not allow it; [`run_plan`] reads a plan as text,
 //! runs its steps in order and writes a report. [`read_sheet`] and [`write_sheet`] turn credentials alone from text
 //! into numbers and back, [`read_attribute`] and [`write_attribute`] the capability attribute of a file from bytes,
-//! [`read_names`] and [`write_names`] three capability sets from a text in names.
+//! [`read_names`] and [`write_names`] three capability sets from a text in names. [`compare_status`] lays a captured
+//! /proc/PID/status beside predicted credentials and lists what differs.
 
 mod attribute;
 mod buffer;
@@ -24,6 +25,7 @@ mod report;
 mod securebits;
 mod sets;
 mod sheet;
+mod status;
 mod user_ids;
 mod written;
 
@@ -34,4 +36,5 @@ pub use decode::Step;
 pub use names::{read_names, write_names};
 pub use plan::{run_plan, Outcome};
 pub use sheet::{read_sheet, write_sheet};
+pub use status::compare_status;
 pub use written::Written;

@@ -142,7 +142,7 @@ fn hex_digit(byte: u8) -> Option<u8> {
 }
 
 /// A user or group ID; 4294967295 can be written, but is not valid.
-fn id(value: &[u8]) -> Option<u32> {
+pub(crate) fn id(value: &[u8]) -> Option<u32> {
     decimal(value)
 }
 
@@ -152,7 +152,7 @@ fn call(value: &[u8]) -> Option<u8> {
 }
 
 /// A capability set or an operand.
-fn word(value: &[u8]) -> Option<u64> {
+pub(crate) fn word(value: &[u8]) -> Option<u64> {
     hexadecimal(value, 16)
 }
 
@@ -161,7 +161,8 @@ fn byte(value: &[u8]) -> Option<u8> {
     u8::try_from(hexadecimal(value, 2)?).ok()
 }
 
-fn flag(value: &[u8]) -> Option<bool> {
+/// A flag such as no-new-privs, 0 or 1.
+pub(crate) fn flag(value: &[u8]) -> Option<bool> {
     match value {
         b"0" => Some(false),
         b"1" => Some(true),

@@ -2,7 +2,7 @@
 
 use crate::cause::Cause;
 
-/// The refusals. Those of a call stand in the order in which they are looked for; the last three are not for calls.
+/// The refusals. Those of a call stand in the order in which they are looked for; the last five are not for calls.
 #[derive(Clone, Copy, Debug, PartialEq, Eq)]
 pub(crate) enum Refusal {
     /// The credentials given are not valid.
@@ -23,6 +23,13 @@ pub(crate) enum Refusal {
         /// The length of its longest beginning that well-formed text can have.
         place: usize,
     },
+    /// The captured status is malformed.
+    MalformedStatus {
+        /// The line of its first fault.
+        line: usize,
+    },
+    /// The sheet of the predicted credentials is malformed.
+    MalformedPrediction,
     /// The buffer is too short for what would go into it.
     NoRoom,
 }
@@ -35,7 +42,10 @@ impl Refusal {
             Refusal::BadOperand => 22,
             Refusal::UnreadableAttribute => 60,
             Refusal::NotPermitted(_) => 1,
-            Refusal::Malformed { .. } | Refusal::MalformedAt { .. } => 70,
+            Refusal::Malformed { .. }
+            | Refusal::MalformedAt { .. }
+            | Refusal::MalformedStatus { .. }
+            | Refusal::MalformedPrediction => 70,
             Refusal::NoRoom => 28,
         }
     }

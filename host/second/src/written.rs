@@ -1,4 +1,4 @@
-//! What the readers and writers of sheets, attributes and texts in names answer.
+//! What the readers and writers of sheets, attributes, texts in names and lists of what differs answer.
 
 use crate::refusal::Refusal;
 
@@ -7,8 +7,9 @@ use crate::refusal::Refusal;
 pub struct Written {
     /// 0 where it is done, else the number of its refusal.
     pub code: u32,
-    /// Where it is done, how many places or bytes are written; for refusal 70 the line of the fault in a sheet, or its
-    /// place in a text in names (4294967295 stands for any place from there on); else 0.
+    /// Where it is done, how many places or bytes are written; for refusal 70 the line of the fault in a sheet or in a
+    /// captured status, or its place in a text in names (4294967295 stands for any line or place from there on), but 0
+    /// where the sheet beside a captured status is malformed; else 0.
     pub number: u32,
 }
 
@@ -19,6 +20,7 @@ impl Written {
             Ok(length) => u32::try_from(length).expect("what is written has few bytes"),
             Err(Refusal::Malformed { line }) => line,
             Err(Refusal::MalformedAt { place }) => u32::try_from(place).unwrap_or(u32::MAX),
+            Err(Refusal::MalformedStatus { line }) => u32::try_from(line).unwrap_or(u32::MAX),
             Err(_) => 0,
         };
         let code = match result {
@@ -34,7 +36,7 @@ mod tests {
     use super::*;
 
     #[test]
-    fn a_place_too_large_for_the_number_is_the_largest_number() {
+    fn a_place_or_line_too_large_for_the_number_is_the_largest_number() {
         for (place, number) in [
             (0, 0),
             (748, 748),
@@ -43,6 +45,8 @@ mod tests {
             (usize::MAX, 4_294_967_295),
         ] {
             let written = Written::from_result(Err(Refusal::MalformedAt { place }));
+            assert_eq!(written, Written { code: 70, number }, "{place}");
+            let written = Written::from_result(Err(Refusal::MalformedStatus { line: place }));
             assert_eq!(written, Written { code: 70, number }, "{place}");
         }
     }

@@ -1,6 +1,6 @@
 //! Starts, steps and texts that the tests share.
 
-use second::{perform, run_plan, Answer, Credentials, Outcome, Step};
+use second::{compare_status, perform, run_plan, Answer, Credentials, Outcome, Step, Written};
 
 pub const FULL: u64 = 0x0000_01ff_ffff_ffff;
 
@@ -257,4 +257,64 @@ pub fn run(plan: &[u8]) -> (Outcome, String) {
 pub fn assert_malformed(plan: &[u8], line: u32) {
     let outcome = run(plan).0;
     assert_eq!(outcome, Outcome::Malformed { line }, "{:?}", String::from_utf8_lossy(plan));
+}
+
+/// The seven wanted lines of a status that agrees with case 2's sheet.
+pub const STATUS: &str = "\
+Uid:\t1000\t1000\t1000\t1000
+CapInh:\t0000000000002000
+CapPrm:\t0000000000002000
+CapEff:\t0000000000002000
+CapBnd:\t000001ffffffffff
+CapAmb:\t0000000000002000
+NoNewPrivs:\t0
+";
+
+/// The names of the wanted lines, each at its place.
+pub const WANTED: [&str; 7] = ["Uid", "CapInh", "CapPrm", "CapEff", "CapBnd", "CapAmb", "NoNewPrivs"];
+
+/// The last line of every list of what differs, 36 bytes long.
+pub const LAST_LINE: &str = "not compared: securebits, group IDs\n";
+
+/// The status with its line `number` put in other words.
+pub fn status_with_line(number: usize, new: &str) -> String {
+    let mut lines: Vec<&str> = STATUS.split_inclusive('\n').collect();
+    lines[number - 1] = new;
+    lines.concat()
+}
+
+/// What a status beside a sheet comes to, and its list; bytes past the list must stay.
+pub fn compare(status: &[u8], sheet: &[u8]) -> (Written, String) {
+    let mut buffer = [0xa5; 400];
+    let written = compare_status(status, sheet, &mut buffer);
+    let length = if written.code == 0 { written.number as usize } else { 0 };
+    assert!(buffer[length..].iter().all(|&byte| byte == 0xa5));
+    (written, String::from_utf8(buffer[..length].to_vec()).unwrap())
+}
+
+/// The status beside the sheet gives just this list.
+pub fn assert_lists(status: impl AsRef<[u8]>, sheet: &str, expected: &str) {
+    let status = status.as_ref();
+    let written = Written { code: 0, number: expected.len() as u32 };
+    let shown = String::from_utf8_lossy(status);
+    assert_eq!(compare(status, sheet.as_bytes()), (written, expected.to_string()), "{shown:?} beside {sheet}");
+}
+
+/// Nothing in the status differs from case 2's sheet.
+pub fn assert_agrees(status: impl AsRef<[u8]>) {
+    assert_lists(status, SHEET, LAST_LINE);
+}
+
+/// The status is malformed at this line, whatever the sheet is and whether there is room or not, and every byte stays.
+pub fn assert_status_malformed(status: impl AsRef<[u8]>, line: u32) {
+    let status = status.as_ref();
+    let not_valid = SHEET.replace("ruid=1000", "ruid=4294967295");
+    for sheet in [SHEET, "", &not_valid] {
+        for length in [0, 36, 372, 400] {
+            let mut buffer = vec![0xa5; length];
+            let written = compare_status(status, sheet.as_bytes(), &mut buffer);
+            assert_eq!(written, Written { code: 70, number: line }, "{:?}", String::from_utf8_lossy(status));
+            assert!(buffer.iter().all(|&byte| byte == 0xa5));
+        }
+    }
 }
