@@ -4,13 +4,14 @@
 pub const USAGE: &str = "\
 compare [--count N] [--seed S] [--threads T] [--table]    compares the proved library and the second program on N plans,
                                                           on N inputs for the readers and writers of sheets and attributes,
-                                                          on 10 N texts in names, and on 2 N times three sets to be written so
+                                                          on 10 N texts in names, on 2 N times three sets to be written so,
+                                                          and on 5 N status texts beside sheets
 compare [--count N] [--seed S] --stream FILE              writes the texts of N plans to FILE";
 
 /// What the command line asks for.
 #[derive(Debug, PartialEq, Eq)]
 pub struct Arguments {
-    /// How many plans, how many inputs, and the names of how many seeds.
+    /// How many plans, how many inputs, and the names and status texts of how many seeds.
     pub count: u64,
     /// The seed of the first of each; each next has the next.
     pub seed: u64,

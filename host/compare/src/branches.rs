@@ -4,13 +4,14 @@
 //! the answer. What comes back is then held against the row. A run of enough plans that never meets a row fails: its plans are too tame.
 //!
 //! The rows of the calls stand in files by the paper's sections; those of texts, and of the readers and writers of sheets, attributes and names,
-//! in files of their own. They were written from the paper, as a third reading of it.
+//! and of status texts, in files of their own. They were written from the paper, as a third reading of it.
 
 mod ambient;
 mod attribute;
 mod bounding;
 mod capset;
 mod causes;
+mod compare_status;
 mod family;
 mod fixups;
 mod group_ids;
@@ -25,12 +26,14 @@ mod read_sheet;
 mod securebits;
 mod seen;
 mod sheet;
+mod status;
 mod texts;
 mod validity;
 mod write_attribute;
 mod write_names;
 mod write_sheet;
 
+pub use compare_status::Laid;
 pub use moment::Moment;
 pub use names::LONGEST as LONGEST_NAMES;
 pub use read_attribute::AttributeRead;
@@ -38,6 +41,7 @@ pub use read_names::{Again, NamesRead};
 pub use read_sheet::SheetRead;
 pub use seen::{Answer, Seen};
 pub use sheet::LONGEST as LONGEST_SHEET;
+pub use status::LONGEST as LONGEST_LIST;
 pub use texts::Sight;
 pub use write_attribute::AttributeWrite;
 pub use write_names::NamesWrite;
@@ -79,6 +83,8 @@ pub struct Table {
     names_malformed: Group<read_names::Malformed>,
     names_read: Group<read_names::WellFormed>,
     names_written: Group<NamesWrite>,
+    status_malformed: Group<Laid>,
+    status_read: Group<Laid>,
 }
 
 // Rows that look at the same, and where the first has its count.
@@ -122,6 +128,8 @@ impl Table {
         let names_malformed = attributes_written.followed_by(read_names::rows_of_malformed_texts());
         let names_read = names_malformed.followed_by(read_names::rows_of_well_formed_texts());
         let names_written = names_read.followed_by(write_names::rows());
+        let status_malformed = names_written.followed_by(compare_status::rows_of_malformed_texts());
+        let status_read = status_malformed.followed_by(compare_status::rows_of_well_formed_texts());
         Table {
             calls,
             of_call,
@@ -133,12 +141,14 @@ impl Table {
             names_malformed,
             names_read,
             names_written,
+            status_malformed,
+            status_read,
         }
     }
 
     /// Counts of nothing yet.
     pub fn counts(&self) -> Counts {
-        Counts(vec![0; self.names_written.end()])
+        Counts(vec![0; self.status_read.end()])
     }
 
     /// Counts the rows that apply to a call. Gives the name of a row whose demand is not met.
@@ -187,6 +197,12 @@ impl Table {
         self.names_written.meet(write, counts)
     }
 
+    /// The same for a status text beside a sheet.
+    pub fn meet_status(&self, laid: &Laid, counts: &mut Counts) -> Result<(), &str> {
+        let group = if laid.is_malformed() { &self.status_malformed } else { &self.status_read };
+        group.meet(laid, counts)
+    }
+
     /// Each row's name with its count.
     pub fn counted(&self, counts: &Counts) -> Vec<(&str, u64)> {
         let names = self.calls.names().chain(self.texts.names());
@@ -194,6 +210,7 @@ impl Table {
         let names = names.chain(self.attributes_read.names()).chain(self.attributes_written.names());
         let names = names.chain(self.names_malformed.names()).chain(self.names_read.names());
         let names = names.chain(self.names_written.names());
+        let names = names.chain(self.status_malformed.names()).chain(self.status_read.names());
         names.zip(counts.0.iter().copied()).collect()
     }
 }

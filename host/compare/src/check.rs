@@ -1,13 +1,15 @@
-//! Plans, inputs and names through both programs.
+//! Plans, inputs, names and status texts through both programs.
 
 mod functions;
 mod input;
 mod names;
 mod plan;
+mod status;
 
 pub use input::{InputChecker, FUNCTIONS};
 pub use names::{NamesChecker, NAME_FUNCTIONS};
 pub use plan::PlanChecker;
+pub use status::StatusChecker;
 
 use crate::branches::Counts;
 use crate::difference::Checked;

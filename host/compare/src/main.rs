@@ -1,8 +1,8 @@
 //! Runs generated plans through the proved library and the second program, and demands that they agree on code, line, length and every byte
-//! of the buffer; and inputs for the readers and writers of sheets and attributes, and of names, likewise.
+//! of the buffer; and inputs for the readers and writers of sheets and attributes, and of names, and status texts beside sheets, likewise.
 //!
-//! The first plan on which they differ is printed, or else the first input, or else the first text in names or sets to be written in names, and
-//! the program ends with 1. So it does if a run of at least 20,000 did not reach every branch of the rules. Wrong arguments end it with 2.
+//! The first plan on which they differ is printed, or else the first input, or else the first text in names or sets to be written in names, or
+//! else the first status text, and the program ends with 1. So it does if a run of at least 20,000 did not reach every branch of the rules. Wrong arguments end it with 2.
 
 mod arguments;
 mod branches;
@@ -13,13 +13,13 @@ mod stream;
 
 use arguments::Arguments;
 use branches::{Counts, Table};
-use check::{Check, InputChecker, NamesChecker, PlanChecker, Tally, FUNCTIONS, NAME_FUNCTIONS};
+use check::{Check, InputChecker, NamesChecker, PlanChecker, StatusChecker, Tally, FUNCTIONS, NAME_FUNCTIONS};
 use difference::Difference;
 use std::process::ExitCode;
 use std::sync::atomic::{AtomicU64, Ordering};
 use std::thread;
 
-/// With so many plans and inputs, and the names of so many seeds, every branch has to be reached.
+/// With so many plans and inputs, and the names and status texts of so many seeds, every branch has to be reached.
 const ENOUGH: u64 = 20_000;
 
 fn main() -> ExitCode {
@@ -71,6 +71,8 @@ fn compare(arguments: &Arguments) -> bool {
     for (function, (name, what)) in NAME_FUNCTIONS.iter().enumerate() {
         report_agreement(what, name, names.iter().map(|checker| checker.tallies[function]));
     }
+    let Some(status) = checked(arguments, &mut counts, "status", || StatusChecker::new(&table)) else { return false };
+    report_agreement("status texts", "compare_status", status.iter().map(|checker| checker.tally));
     report_branches(arguments, &table, &counts)
 }
 

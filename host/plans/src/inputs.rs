@@ -66,7 +66,7 @@ fn written(plan: Plan, kind: fn(Plan) -> Kind) -> Generated {
 }
 
 /// Credentials that are not valid in one way. A bit above 40 is now and then the highest.
-fn flawed(random: &mut Random) -> Credentials {
+pub(crate) fn flawed(random: &mut Random) -> Credentials {
     let flaw = random.pick(&Flaw::ALL);
     let mut start = starts::flawed(random, flaw);
     if random.one_in(4) {
@@ -82,7 +82,7 @@ fn flawed(random: &mut Random) -> Credentials {
 
 /// Valid credentials, now and then with an ID, or all of them, next to a power of ten, where the number of its digits changes, or with the
 /// largest; or with the most securebits.
-fn start(random: &mut Random) -> Credentials {
+pub(crate) fn start(random: &mut Random) -> Credentials {
     let mut start = starts::valid(random);
     if random.one_in(20) {
         start.securebits = 255;

@@ -1,8 +1,9 @@
-//! Plans, sheets, attributes, texts in names and broken texts, each made from one seed.
+//! Plans, sheets, attributes, texts in names, status texts and broken texts, each made from one seed.
 //!
 //! [`generated`] gives the text of any kind: plans that run, with the calls and operands that the rules tell apart; plans whose start is
 //! invalid; texts that are no plans. [`input`] gives what the readers and writers of sheets and attributes are asked. [`named_text`] gives texts
-//! in names, [`libcap_text`] those for libcap, and [`named_sets`] sets to be written in names. [`measured`] gives plans of a fixed number of steps, to take times by. The same seed
+//! in names, [`libcap_text`] those for libcap, and [`named_sets`] sets to be written in names. [`status_input`] gives status texts, each with a sheet to be laid
+//! beside it. [`measured`] gives plans of a fixed number of steps, to take times by. The same seed
 //! gives the same.
 
 #![deny(missing_docs)]
@@ -14,12 +15,17 @@ mod names;
 mod random;
 mod sets;
 mod starts;
+mod status;
 mod steps;
 mod text;
 
 pub use broken::Fault;
 pub use inputs::{input, values, Input, Operands, VALUES};
 pub use names::{libcap_text, named_sets, named_text, NameFault, NamedKind, NamedText, CAPABILITY_NAMES};
+pub use status::{
+    bare_status, compared_values, kernel_status, status_input, Found, StatusFault, StatusInput, StatusKind, FOUND,
+    WANTED,
+};
 pub use text::{write_result, write_sheet, write_step};
 
 use random::Random;

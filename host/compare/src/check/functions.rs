@@ -1,14 +1,14 @@
-//! The readers and writers of sheets, attributes and names, each in both programs.
+//! The readers and writers of sheets, attributes and names, and the comparison of a status text, each in both programs.
 
 use super::scattered;
-use crate::branches::{Answer, Seen, LONGEST_NAMES, LONGEST_SHEET};
+use crate::branches::{Answer, Seen, LONGEST_LIST, LONGEST_NAMES, LONGEST_SHEET};
 use crate::buffers::{Buffers, Element};
 use crate::difference::both;
 use plans::{Operands, VALUES};
 use second::Written;
 use urrezkalu::interface;
 
-/// One of the six with what it is given.
+/// One of the seven with what it is given.
 pub trait Function {
     /// What it writes.
     type Element: Element;
@@ -115,6 +115,24 @@ impl Function for WriteNames {
     fn second(&self, text: &mut [u8]) -> Written {
         let [permitted, inheritable, effective] = self.0;
         second::write_names(permitted, inheritable, effective, text)
+    }
+}
+
+pub struct CompareStatus<'t> {
+    pub status: &'t [u8],
+    pub sheet: &'t [u8],
+}
+
+impl Function for CompareStatus<'_> {
+    type Element = u8;
+    const MOST: usize = LONGEST_LIST;
+
+    fn proved(&self, list: &mut [u8]) -> u64 {
+        interface::compare_status(self.status, self.sheet, list)
+    }
+
+    fn second(&self, list: &mut [u8]) -> Written {
+        second::compare_status(self.status, self.sheet, list)
     }
 }
 
