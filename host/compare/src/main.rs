@@ -11,7 +11,7 @@ mod check;
 mod difference;
 mod stream;
 
-use arguments::Arguments;
+use arguments::{Arguments, Part};
 use branches::{Counts, Table};
 use check::{Check, InputChecker, NamesChecker, PlanChecker, StatusChecker, Tally, FUNCTIONS, NAME_FUNCTIONS};
 use difference::Difference;
@@ -57,23 +57,41 @@ fn write_stream(name: &str, arguments: &Arguments) -> bool {
 fn compare(arguments: &Arguments) -> bool {
     let table = Table::new();
     let mut counts = table.counts();
-    let Some(plans) = checked(arguments, &mut counts, "plan", || PlanChecker::new(&table)) else { return false };
-    let runs: u64 = plans.iter().map(Check::runs).sum();
-    println!(
-        "compare: {} plans from seed {}, {runs} runs of each program: no difference",
-        arguments.count, arguments.seed
-    );
-    let Some(inputs) = checked(arguments, &mut counts, "input", || InputChecker::new(&table)) else { return false };
-    for (function, name) in FUNCTIONS.iter().enumerate() {
-        report_agreement("inputs", name, inputs.iter().map(|checker| checker.tallies[function]));
+    let parts = Part::ALL.map(|(_, part)| part).into_iter().cycle();
+    let mut parts = parts.skip_while(|part| *part != arguments.first).take(Part::ALL.len());
+    parts.all(|part| compare_part(part, arguments, &table, &mut counts).is_some())
+        && report_branches(arguments, &table, &counts)
+}
+
+// Compares one part, and says how much was compared; or prints the first difference and gives none.
+fn compare_part(part: Part, arguments: &Arguments, table: &Table, counts: &mut Counts) -> Option<()> {
+    match part {
+        Part::Plans => {
+            let plans = checked(arguments, counts, "plan", || PlanChecker::new(table))?;
+            let runs: u64 = plans.iter().map(Check::runs).sum();
+            println!(
+                "compare: {} plans from seed {}, {runs} runs of each program: no difference",
+                arguments.count, arguments.seed
+            );
+        }
+        Part::Inputs => {
+            let inputs = checked(arguments, counts, "input", || InputChecker::new(table))?;
+            for (function, name) in FUNCTIONS.iter().enumerate() {
+                report_agreement("inputs", name, inputs.iter().map(|checker| checker.tallies[function]));
+            }
+        }
+        Part::Names => {
+            let names = checked(arguments, counts, "names", || NamesChecker::new(table))?;
+            for (function, (name, what)) in NAME_FUNCTIONS.iter().enumerate() {
+                report_agreement(what, name, names.iter().map(|checker| checker.tallies[function]));
+            }
+        }
+        Part::Status => {
+            let status = checked(arguments, counts, "status", || StatusChecker::new(table))?;
+            report_agreement("status texts", "compare_status", status.iter().map(|checker| checker.tally));
+        }
     }
-    let Some(names) = checked(arguments, &mut counts, "names", || NamesChecker::new(&table)) else { return false };
-    for (function, (name, what)) in NAME_FUNCTIONS.iter().enumerate() {
-        report_agreement(what, name, names.iter().map(|checker| checker.tallies[function]));
-    }
-    let Some(status) = checked(arguments, &mut counts, "status", || StatusChecker::new(&table)) else { return false };
-    report_agreement("status texts", "compare_status", status.iter().map(|checker| checker.tally));
-    report_branches(arguments, &table, &counts)
+    Some(())
 }
 
 // Says of one of the readers and writers how much it was asked, by all threads.
