@@ -1,4 +1,5 @@
-//! Times the proved library and the second program on equal plans, side by side; and these two and libcap on equal texts in names.
+//! Times the proved library and the second program on equal plans, side by side; these two and libcap on equal texts in names; and these two on
+//! equal status texts.
 //!
 //! ```text
 //! bench [ROUNDS]
@@ -6,11 +7,12 @@
 //!
 //! For each number of steps there is a batch of different plans, well-formed ones and ones with a byte changed. A round runs both programs over the
 //! batch, each plan into a buffer of its own that was cleared before, and then compares every answer and every byte of every buffer. Clearing and
-//! comparing are not timed. Rounds of the two programs alternate, so that both see the same phases of the machine's clock. Texts in names have a fifth
-//! of the rounds; libcap is left out where the system has none, and on texts that it does not read as the others do.
+//! comparing are not timed. Rounds of the two programs alternate, so that both see the same phases of the machine's clock. Texts in names and
+//! status texts have a fifth of the rounds; libcap is left out where the system has none, and on texts that it does not read as the others do.
 
 mod figures;
 mod names;
+mod status;
 
 use figures::Figures;
 use libcap::Libcap;
@@ -21,7 +23,7 @@ use std::time::Instant;
 /// How many rounds are run where none is asked for.
 const ROUNDS: usize = 101;
 
-/// Of so many rounds one is run on texts in names, which take longer.
+/// Of so many rounds one is run on texts in names and status texts, which take longer.
 const PLANS_A_TEXT: usize = 5;
 
 /// An answer as numbers, so that the two programs' can be compared: code, line of a fault, length of the report.
@@ -117,7 +119,8 @@ fn main() -> ExitCode {
         }
     };
     println!("{rounds} rounds; times are medians, with the first and third quartile of the rounds in brackets\n");
-    match plans(rounds).and_then(|()| names(rounds.div_ceil(PLANS_A_TEXT))) {
+    let fewer = rounds.div_ceil(PLANS_A_TEXT);
+    match plans(rounds).and_then(|()| names(fewer)).and_then(|()| status(fewer)) {
         Ok(()) => ExitCode::SUCCESS,
         Err(difference) => {
             println!("{difference}");
@@ -149,5 +152,12 @@ fn names(rounds: usize) -> Result<(), String> {
     }
     println!("\n{rounds} rounds\n\n{}", names::HEADING);
     names::rows(libcap.as_ref().ok(), rounds)?.iter().for_each(|row| println!("{row}"));
+    Ok(())
+}
+
+// The same for status texts.
+fn status(rounds: usize) -> Result<(), String> {
+    println!("\n{rounds} rounds\n\n{}", status::HEADING);
+    status::rows(rounds)?.iter().for_each(|row| println!("{row}"));
     Ok(())
 }

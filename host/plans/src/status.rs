@@ -137,3 +137,101 @@ fn malformed(random: &mut Random, start: Credentials, status: &[u8]) -> Generate
         _ => broken_sheets::broken_sheet(random),
     }
 }
+
+#[cfg(test)]
+mod tests {
+    use super::*;
+    use second::{compare_status, Written};
+
+    const LONGEST_LIST: usize = 372;
+
+    fn compared(StatusInput { status, sheet, .. }: &StatusInput) -> (Written, Vec<u8>) {
+        let mut list = [0; LONGEST_LIST];
+        let answer = compare_status(status, &sheet.text, &mut list);
+        (answer, list[..if answer.code == 0 { answer.number as usize } else { 0 }].to_vec())
+    }
+
+    #[test]
+    fn the_same_seed_gives_the_same_texts() {
+        for seed in 0..500 {
+            assert_eq!(status_input(seed), status_input(seed));
+        }
+        assert_ne!(status_input(1), status_input(2));
+    }
+
+    #[test]
+    fn texts_come_to_what_is_known_of_them() {
+        let (mut broken, mut refused, mut lists) = (0, 0, 0);
+        for seed in 0..20_000 {
+            let input = status_input(seed);
+            let (answer, list) = compared(&input);
+            match (&input.kind, &input.sheet.kind) {
+                (StatusKind::Broken { line: None, .. }, _) => {}
+                (StatusKind::Broken { fault, line: Some(line), .. }, _) => {
+                    assert_eq!(answer, Written { code: 70, number: *line }, "{fault:?}, seed {seed}");
+                    broken += 1;
+                }
+                (_, Kind::Broken { line: None, .. }) => {}
+                (_, Kind::Broken { .. }) => {
+                    assert_eq!(answer, Written { code: 70, number: 0 }, "seed {seed}");
+                    refused += 1;
+                }
+                (_, Kind::Runs(plan)) if !plan.steps.is_empty() => {
+                    assert_eq!(answer, Written { code: 70, number: 0 }, "seed {seed}");
+                    refused += 1;
+                }
+                (_, Kind::Flawed(_)) => {
+                    assert_eq!(answer, Written { code: 72, number: 0 }, "seed {seed}");
+                    refused += 1;
+                }
+                (StatusKind::WellFormed { found }, Kind::Runs(plan)) => {
+                    let predicted = compared_values(&plan.start);
+                    let differing = predicted.iter().zip(found).filter(|(one, other)| one != other).count();
+                    assert_eq!(answer.code, 0, "seed {seed}");
+                    assert_eq!(list.iter().filter(|byte| **byte == b'\n').count(), differing + 1, "seed {seed}");
+                    lists += 1;
+                }
+            }
+        }
+        assert!(broken > 7000 && refused > 700 && lists > 6000, "{broken}, {refused}, {lists}");
+    }
+
+    #[test]
+    fn every_fault_breaks_the_text_where_it_says() {
+        let sheet = written(Plan { start: crate::measured(3, 0).start, steps: Vec::new() }, Kind::Runs);
+        for fault in StatusFault::ALL.into_iter().filter(|fault| !fault.is_blind()) {
+            let mut places = Vec::new();
+            for seed in 0..200 {
+                let mut random = Random::new(seed);
+                let found = [seed; FOUND].map(|value| value & 1);
+                let lines = with_unwanted_lines(&mut random, &found);
+                let (status, kind) = broken::broken_by(&mut random, fault, lines, &found);
+                let StatusKind::Broken { place, line: Some(line), .. } = kind else { panic!("its line is known") };
+                let input = StatusInput { status, kind, sheet: sheet.clone() };
+                assert_eq!(compared(&input).0, Written { code: 70, number: line }, "{fault:?}, seed {seed}");
+                places.push(place);
+            }
+            assert!(fault.places().iter().all(|place| places.contains(place)), "{fault:?}");
+        }
+    }
+
+    #[test]
+    fn what_is_written_from_credentials_gives_the_last_line_alone() {
+        for seed in 0..200 {
+            let start = crate::measured(seed, 0).start;
+            let found = compared_values(&start);
+            let sheet = written(Plan { start, steps: Vec::new() }, Kind::Runs);
+            let lines = with_unwanted_lines(&mut Random::new(seed), &found);
+            for status in [bare_status(&found), kernel_status(&found), lines.text()] {
+                let input = StatusInput { status, kind: StatusKind::WellFormed { found }, sheet: sheet.clone() };
+                assert_eq!(compared(&input).1, b"not compared: securebits, group IDs\n");
+            }
+        }
+    }
+
+    #[test]
+    fn the_longest_list_is_among_them() {
+        let lengths = (0..2000).map(|seed| compared(&status_input(seed)).1.len());
+        assert_eq!(lengths.max(), Some(LONGEST_LIST));
+    }
+}

@@ -135,3 +135,68 @@ pub fn rows_of_well_formed_texts() -> Vec<Row<Laid>> {
     rows.extend(passed_over::rows());
     rows
 }
+
+#[cfg(test)]
+mod tests {
+    use super::super::seen::Answer;
+    use super::super::Table;
+    use super::*;
+
+    // What comes back in every buffer but those of no room and one byte short, which are refused with 28 where it is a list.
+    fn came_back(code: u32, number: u32, list: &[u8]) -> Seen<u8> {
+        let answer = Answer { code, number };
+        let short = if code == 0 { Answer { code: 28, number: 0 } } else { answer };
+        let some = (list.len().max(status::LONGEST), answer);
+        Seen { no_room: short, one_short: short, exact: answer, some, roomy: answer, written: list.to_vec() }
+    }
+
+    fn is_met(input: &StatusInput, seen: Seen<u8>) -> bool {
+        let table = Table::new();
+        let laid = Laid::new(input.clone(), seen);
+        table.meet_status(&laid, &mut table.counts()).is_ok()
+    }
+
+    fn first(is_it: impl Fn(&StatusInput) -> bool) -> StatusInput {
+        (0..).map(plans::status_input).find(is_it).expect("there is one among the first")
+    }
+
+    #[test]
+    fn a_line_off_by_one_is_told() {
+        let input = first(|input| matches!(input.kind, StatusKind::Broken { line: Some(3), .. }));
+        assert!(is_met(&input, came_back(70, 3, b"")));
+        for (code, number) in [(70, 2), (70, 4), (70, 0), (72, 0), (28, 0)] {
+            assert!(!is_met(&input, came_back(code, number, b"")), "{code}, {number}");
+        }
+    }
+
+    #[test]
+    fn another_refusal_of_a_sheet_is_told() {
+        let is_well_formed = |input: &StatusInput| matches!(input.kind, StatusKind::WellFormed { .. });
+        let invalid = first(|input| is_well_formed(input) && matches!(input.sheet.kind, plans::Kind::Flawed(_)));
+        assert!(is_met(&invalid, came_back(72, 0, b"")) && !is_met(&invalid, came_back(70, 0, b"")));
+        let malformed = first(|input| is_well_formed(input) && input.sheet.text.is_empty());
+        assert!(is_met(&malformed, came_back(70, 0, b"")) && !is_met(&malformed, came_back(70, 1, b"")));
+    }
+
+    #[test]
+    fn another_list_is_told() {
+        let input = first(|input| {
+            let StatusKind::WellFormed { found } = &input.kind else { return false };
+            let plans::Kind::Runs(plan) = &input.sheet.kind else { return false };
+            plan.steps.is_empty() && plans::compared_values(&plan.start) == *found
+        });
+        let list = b"not compared: securebits, group IDs\n";
+        assert!(is_met(&input, came_back(0, 36, list)));
+        assert!(!is_met(&input, came_back(0, 0, b"")));
+        assert!(!is_met(&input, came_back(0, 35, &list[..35])));
+        assert!(!is_met(&input, came_back(0, 44, b"nnp 0 1\nnot compared: securebits, group IDs\n")));
+    }
+
+    #[test]
+    fn what_a_text_was_made_to_say_is_held_against_it() {
+        let mut input = first(|input| matches!(input.kind, StatusKind::Broken { line: Some(3), .. }));
+        let StatusKind::Broken { line, .. } = &mut input.kind else { panic!("it is broken") };
+        *line = Some(4);
+        assert!(!is_met(&input, came_back(70, 3, b"")) && !is_met(&input, came_back(70, 4, b"")));
+    }
+}
