@@ -220,9 +220,9 @@ fn values_alone(random: &mut Random, lost: usize) -> Vec<u8> {
 
 // Few are longer than 65,535 bytes.
 fn long(random: &mut Random) -> Vec<u8> {
-    let count = match random.below(40) {
+    let count = match random.below(20) {
         0 => 65_536 + random.below(100),
-        1..=9 => 4_096 + random.below(1_000),
+        1..=4 => 4_096 + random.below(1_000),
         _ => 256 + random.below(500),
     };
     let byte = random.pick(b"x:\0\xff\t");
