@@ -2,9 +2,8 @@
 //!
 //! [`generated`] gives the text of any kind: plans that run, with the calls and operands that the rules tell apart; plans whose start is
 //! invalid; texts that are no plans. [`input`] gives what the readers and writers of sheets and attributes are asked. [`named_text`] gives texts
-//! in names, [`libcap_text`] those for libcap, and [`named_sets`] sets to be written in names. [`status_input`] gives status texts, each with a sheet to be laid
-//! beside it. [`measured`] gives plans of a fixed number of steps, to take times by. The same seed
-//! gives the same.
+//! in names, [`libcap_text`] those for libcap, and [`named_sets`] sets to be written in names. [`status_input`] gives status texts, each with a sheet
+//! to be laid beside it. [`measured`] gives plans of a fixed number of steps, to take times by. The same seed gives the same.
 
 #![deny(missing_docs)]
 

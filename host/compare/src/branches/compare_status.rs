@@ -21,6 +21,8 @@ pub struct Laid {
     predicted: Option<Compared>,
     // Which of the compared keys differ, by their places, where both are read.
     differing: u32,
+    // The bytes of their list.
+    length: usize,
     /// What came back in each buffer.
     pub seen: Seen<u8>,
     // Whether that is what the two come to, and they come to what they were made to say.
@@ -36,7 +38,7 @@ impl Laid {
             sheet::Reading::Sheet(values) if is_valid(values) => Some(status::compared(values)),
             _ => None,
         };
-        let mut differing = 0;
+        let (mut differing, mut length) = (0, 0);
         let came_back = match (&reading.found, &sheet, &predicted) {
             (Err(fault), _, _) => seen.is_refused(70, fault.line as u32),
             (_, sheet::Reading::Malformed { .. }, _) => seen.is_refused(70, 0),
@@ -44,11 +46,13 @@ impl Laid {
             (Ok(found), _, Some(predicted)) => {
                 let differs = |key: &usize| predicted[*key] != found[*key];
                 differing = (0..found.len()).filter(differs).fold(0, |keys, key| keys | 1 << key);
-                seen.is_done(&status::list(predicted, found))
+                let list = status::list(predicted, found);
+                length = list.len();
+                seen.is_done(&list)
             }
         };
         let is_right = came_back && is_as_made(&input.kind, &reading);
-        Laid { input, reading, sheet, predicted, differing, seen, is_right }
+        Laid { input, reading, sheet, predicted, differing, length, seen, is_right }
     }
 
     /// Whether the status text is malformed.
@@ -109,12 +113,8 @@ fn is_as_made(kind: &StatusKind, reading: &Reading) -> bool {
         (StatusKind::WellFormed { found: made }, Ok(found)) => made == found,
         (StatusKind::WellFormed { .. }, Err(_)) => false,
         (StatusKind::Broken { line: None, .. }, _) => true,
-        (StatusKind::Broken { line, .. }, found) => line.is_some() && found.as_ref().err().map(line_of) == *line,
+        (StatusKind::Broken { line, .. }, found) => found.as_ref().err().map(|fault| fault.line as u32) == *line,
     }
-}
-
-fn line_of(fault: &Fault) -> u32 {
-    fault.line as u32
 }
 
 fn row(name: impl std::fmt::Display, when: impl Fn(&Laid) -> bool + Send + Sync + 'static) -> Row<Laid> {

@@ -55,14 +55,10 @@ fn rows_of_room() -> Vec<Row<Laid>> {
         of("28: no room, and nothing differs", agrees, |s| s.seen.no_room == NO_ROOM),
         of("28: 35 bytes, and nothing differs", agrees, |s| s.seen.one_short == NO_ROOM),
         of("28: one byte short, and something differs", differs, |s| s.seen.one_short == NO_ROOM),
-        of(
-            "28: 371 bytes, and everything differs",
-            |s| is_done(s) && s.seen.written.len() == LONGEST,
-            |s| s.seen.one_short == NO_ROOM,
-        ),
+        of("28: 371 bytes for the longest list", is_longest, |s| s.seen.one_short == NO_ROOM),
         of(
             "28: room for the last line and not for what differs",
-            |s| is_done(s) && s.differing != 0 && s.seen.some.0 >= SHORTEST && s.seen.some.0 < s.seen.written.len(),
+            |s| is_done(s) && (SHORTEST..s.length).contains(&s.seen.some.0),
             |s| s.seen.some.1 == NO_ROOM,
         ),
         of(
@@ -70,18 +66,18 @@ fn rows_of_room() -> Vec<Row<Laid>> {
             |s| is_done(s) && (1..SHORTEST).contains(&s.seen.some.0),
             |s| s.seen.some.1 == NO_ROOM,
         ),
-        of("0: just enough room", differs, |s| s.seen.exact.written() == s.seen.written.len()),
-        of("0: more room", differs, |s| s.seen.roomy.written() == s.seen.written.len()),
+        of("0: just enough room", differs, |s| s.seen.exact.written() == s.length),
+        of("0: more room", differs, |s| s.seen.roomy.written() == s.length),
         of("0: the last line alone, 36 bytes", agrees, |s| s.seen.exact.written() == SHORTEST),
-        of(
-            "0: the longest list, 372 bytes",
-            |s| {
-                s.differing == ALL_TEN
-                    && s.both().is_some_and(|(p, f)| (0..IDS).all(|id| p[id].min(f[id]) > 999_999_999))
-            },
-            |s| s.seen.exact.written() == LONGEST,
-        ),
+        of("0: the longest list, 372 bytes", is_longest, |s| s.seen.exact.written() == LONGEST),
     ]
+}
+
+// Whether everything differs, and every ID has ten digits.
+fn is_longest(s: &Laid) -> bool {
+    let has_ten_digits =
+        |predicted: &Compared, found: &Compared| (0..IDS).all(|id| predicted[id].min(found[id]) > 999_999_999);
+    s.differing == ALL_TEN && s.both().is_some_and(|(predicted, found)| has_ten_digits(predicted, found))
 }
 
 fn rows_of_keys() -> Vec<Row<Laid>> {
