@@ -2,7 +2,8 @@
 //! of the buffer; and inputs for the readers and writers of sheets and attributes, and of names, and status texts beside sheets, likewise.
 //!
 //! The first plan on which they differ is printed, or else the first input, or else the first text in names or sets to be written in names, or
-//! else the first status text, and the program ends with 1. So it does if a run of at least 20,000 did not reach every branch of the rules. Wrong arguments end it with 2.
+//! else the first status text, and the program ends with 1. So it does if a run of at least 20,000 did not reach every branch of the rules. Wrong
+//! arguments end it with 2.
 
 mod arguments;
 mod branches;
