@@ -31,7 +31,7 @@ fit-length [] (v ∷ vs) h = absurd h
 fit-length (f ∷ fs) [] h = absurd h
 fit-length (f ∷ fs) (v ∷ vs) h = ap suc (fit-length fs vs (h .1))
 
-fit-parts : (fs gs : List Form) (vs : List ℕ) → FitForms (fs ++ gs) vs
+pub fit-parts : (fs gs : List Form) (vs : List ℕ) → FitForms (fs ++ gs) vs
     → FitForms fs (take (length fs) vs) × FitForms gs (drop (length fs) vs)
 unfolding FitForms
 fit-parts [] gs vs h = (tt, h)
@@ -98,7 +98,7 @@ pub record Told (es : List Entry) (ls : List (List ℕ)) (vs : List ℕ) : Type 
   pub lines : ls ≡ linesFrom es vs
   pub fit : FitForms (allForms es) vs
 
-due-told : (e : Entry) (es : List Entry) (l : List ℕ) (ls : List (List ℕ)) (ws us : List ℕ) → l ≡ entryText e ws → FitForms (e .forms) ws → Told es ls us
+pub due-told : (e : Entry) (es : List Entry) (l : List ℕ) (ls : List (List ℕ)) (ws us : List ℕ) → l ≡ entryText e ws → FitForms (e .forms) ws → Told es ls us
     → Told (e ∷ es) (l ∷ ls) (ws ++ us)
 unfolding linesFrom allForms
 due-told e es l ls ws us p f t =

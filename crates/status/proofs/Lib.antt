@@ -1,8 +1,10 @@
 pub mod Computed
 pub mod Lacking
+pub mod Within
 pub mod Values
 pub mod Lines
 pub mod Dues
 pub mod Listed
 pub mod RoundTrip
 pub mod Longest
+pub mod FirstFault

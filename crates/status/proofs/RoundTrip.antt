@@ -23,7 +23,7 @@ use Rattle.status.proofs.Lacking.{both-lack, lacking, lacks-by, value-l
 use Rattle.status.proofs.Values.{FitForms}
 use Rattle.status.proofs.Lines.{lines-then, last-line}
 use Rattle.status.proofs.Listed.{listed}
-use Rattle.status.proofs.Dues.{linesFrom, allForms, dues-read, dues-told}
+use Rattle.status.proofs.Dues.{linesFrom, allForms, Told, dues-read, dues-told}
 
 -- ---- the values of the seven lines
 
@@ -65,12 +65,22 @@ values-back vs h =
     let flag : at 9 ≡ number (eqb (at 9) 1) = flag-written (at 9) (omega (arith, fit)) in
     (e ∙ ap (λ (x : ℕ). at 0 ∷ at 1 ∷ at 2 ∷ at 3 ∷ at 4 ∷ at 5 ∷ at 6 ∷ at 7 ∷ at 8 ∷ x ∷ []) flag, omega (arith, fit))
 
+-- lines that were written for the values of the seven, and for what these show
+pub told-written : (ls : List (List ℕ)) (vs : List ℕ) → Told entries ls vs → (ls ≡ statusLines (statusOf vs)) × Writable (statusOf vs)
+told-written ls vs t =
+    let b = values-back vs (t .fit) in
+    (t .lines ∙ ap (linesFrom entries) (b .0) ∙ lines-told (statusOf vs), b .1)
+
+pub written-told : (ls : List (List ℕ)) (s : Status) → Writable s → ls ≡ statusLines s → Told entries ls (lineValues s)
+written-told ls s w e = record { lines = e ∙ sym (lines-told s); fit = values-fit s w }
+
 -- ---- the text
 
 written-read : (text : List ℕ) (s : Status) → Writable s → wantedOf (linesOf text) ≡ statusLines s → readStatus text ≡ Shows s
 unfolding readStatus
 written-read text s w e =
-    ap shown (dues-read entries (linesOf text) (lineValues s) (values-fit s w) (e ∙ sym (lines-told s))) ∙ ap Shows (values-told s)
+    let t = written-told (wantedOf (linesOf text)) s w e in
+    ap shown (dues-read entries (linesOf text) (lineValues s) (t .fit) (t .lines)) ∙ ap Shows (values-told s)
 
 shown-told : (r : Read (List ℕ)) (s : Status) → shown r ≡ Shows s → (vs rest : List ℕ) × (r ≡ read vs rest) × (statusOf vs ≡ s)
 shown-told (read vs rest) s e = (vs, rest, refl, cc)
@@ -80,9 +90,7 @@ read-written : (text : List ℕ) (s : Status) → readStatus text ≡ Shows s �
 unfolding readStatus
 read-written text s e =
     let r = shown-told (readDues entries (linesOf text)) s e in
-    let t = dues-told entries (linesOf text) (r .0) (r .1) (r .2) in
-    let b = values-back (r .0) (t .fit) in
-    rw (← (r .3)) (t .lines ∙ ap (linesFrom entries) (b .0) ∙ lines-told (statusOf (r .0)), b .1)
+    rw (← (r .3)) (told-written (wantedOf (linesOf text)) (r .0) (dues-told entries (linesOf text) (r .0) (r .1) (r .2)))
 
 -- ---- the written text
 

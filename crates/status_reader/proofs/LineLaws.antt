@@ -1,22 +1,23 @@
 -- Laws of a line: its name, and its values behind tabs. Assumes nothing.
 use mathlib.Core.Path.{_≡_, refl, sym, ap, _∙_}
 use mathlib.Core.List.{List, [], _∷_, _++_, append-nil}
-use mathlib.Core.Bool.{Bool, true, false, cond, _&&_, _||_}
-use Prim.Native.Nat.{ℕ, zero, suc, _+_, _-_, _*_, _<_, _≤_}
+use mathlib.Core.Bool.{Bool, true, false, cond, _||_}
+use Prim.Native.Nat.{ℕ, suc, _+_, _-_, _<_, _≤_}
 use native.Mathlib.Nat.{zero-add}
 use native.Mathlib.Numerals.{add-one}
 use native.Mathlib.Omega.{arith}
 use borrow.Author.Tests.{eq-eqb, ne-eqb, eqb-true}
-use lib.Dec.{ltb, leb, eqb}
+use lib.Dec.{eqb}
 use lib.ListN.{length, getD, take, drop, length-drop, drop-of-length-le}
 use lib.Seq.{drop-cons, drop-drop, take-all, take-append-seam, drop-append-seam}
-use Rattle.format.specs.Line.{bytes, Form, decimal, hex, Read, read, faultAt, fault, below, next, mapped, hexDigit, decimalDigit, newline, readHex, readDigits, readDecimal, readValue, startsWith}
+use Rattle.format.specs.Line.{bytes, Form, Read, read, faultAt, fault, below, next, mapped, startsWith}
 use Rattle.format.proofs.Keys.{key-there, key-missing}
 use Rattle.status.specs.Lines.{Entry, entries, beginsOne, wanted}
-use Rattle.status.specs.Reading.{tab, upTo, since, ended, valueOf, readValues, readEntry}
+use Rattle.status.specs.Reading.{tab, upTo, since, valueOf, readValues, readEntry}
 use Rattle.status.specs.RoundTrip.{Lacks}
 use Rattle.status.proofs.Lacking.{parted, value-lacks, up-to-end, since-end}
 use Rattle.status.proofs.Values.{value-written}
+use Rattle.status.proofs.Within.{value-within, then-fault}
 use Rattle.status_reader.specs.declared.values.Value.{Value}
 use Rattle.status_reader.specs.declared.values.Value.the-variants as VV
 use Rattle.status_reader.specs.Inside.{valueRead, lineRead, behindTab}
@@ -155,48 +156,9 @@ module _ (t : List ℕ) (f : Form) (fs : List Form) (name : List ℕ) where
 
 -- ---- values
 
--- a fault within a line is at that line
-abbrev Within : Read ℕ → Type 0
-Within (read v t) = Unit
-Within (faultAt line) = line ≡ 1
-
-within-if : (q : Bool) (r s : Read ℕ) → Within r → Within s → Within (cond q r s)
-within-if true r s h g = h
-within-if false r s h g = g
-
-hex-within : (n v : ℕ) (t : List ℕ) → Within (readHex n v t)
-unfolding readHex
-hex-within zero v [] = refl
-hex-within zero v (b ∷ t) = within-if (eqb b newline) (read v t) fault tt refl
-hex-within (suc n) v [] = refl
-hex-within (suc n) v (b ∷ t) = within-if (ltb (hexDigit b) 16) (readHex n (v * 16 + hexDigit b) t) fault (hex-within n (v * 16 + hexDigit b) t) refl
-
-digits-within : (m v : ℕ) (t : List ℕ) → Within (readDigits m v t)
-unfolding readDigits
-digits-within m v [] = refl
-digits-within m v (b ∷ t) =
-    within-if (eqb b newline) (read v t) _ tt
-    (within-if (eqb v 0) fault _ refl
-    (within-if (ltb (decimalDigit b) 10 && leb (v * 10 + decimalDigit b) m) (readDigits m (v * 10 + decimalDigit b) t) fault
-    (digits-within m (v * 10 + decimalDigit b) t)
-    refl))
-
-value-within : (f : Form) (t : List ℕ) → Within (readValue f t)
-unfolding readDecimal
-value-within (decimal m) [] = refl
-value-within (decimal m) (b ∷ t) =
-    within-if (ltb (decimalDigit b) 10 && leb (decimalDigit b) m) (readDigits m (decimalDigit b) t) fault (digits-within m (decimalDigit b) t) refl
-value-within (hex n) t = hex-within n 0 t
-
 -- a value behind which nothing can be read
-then-fault : {A : Type 0} (r : Read ℕ) → Within r → next {B = A} 0 (ended r) (λ v rest. fault) ≡ fault
-then-fault (read v []) h = refl
-then-fault (read v (b ∷ t)) h = refl
-then-fault (faultAt line) h = rw h
-
 value-then-fault : {A : Type 0} (f : Form) (t : List ℕ) → next {B = A} 0 (valueOf f t) (λ v rest. fault) ≡ fault
-unfolding valueOf
-value-then-fault f t = then-fault (readValue f (t ++ bytes "\n")) (value-within f (t ++ bytes "\n"))
+value-then-fault f t = then-fault (valueOf f t) (value-within f t)
 
 -- the last value: all that is left, for there is no tab in it
 last-found : (f : Form) (t : List ℕ) (v : ℕ) → read v [] ≡ valueOf f t → read (v ∷ []) [] ≡ behindTab f [] t
