@@ -1,8 +1,8 @@
 -- What private functions compute on the way, here and in the crates above; no public contract cites these. Assumes nothing.
 use Prim.Native.Nat.{ℕ, zero, suc, _+_, _-_, _*_}
 use mathlib.Core.List.{List, [], _∷_, _++_}
-use mathlib.Core.Bool.{Bool, true, false, cond}
-use lib.Dec.{ltb, eqb}
+use mathlib.Core.Bool.{true, false, cond}
+use lib.Dec.{ltb}
 use lib.ListN.{length, drop, replicate}
 use Rattle.format.specs.Line.{Read, read, faultAt, afterKey}
 use Rattle.hex_tables.specs.Tables.{hexDigitBy}

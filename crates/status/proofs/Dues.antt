@@ -1,12 +1,12 @@
 -- The wanted lines of a text, written and read, each from the other. Assumes nothing.
-use mathlib.Core.Path.{_≡_, refl, sym, ap, _∙_}
+use mathlib.Core.Path.{_≡_, refl, ap}
 use mathlib.Core.List.{List, [], _∷_, _++_}
 use mathlib.Core.Bool.{Bool, true, false, cond}
-use Prim.Native.Nat.{ℕ, zero, suc, _+_}
+use Prim.Native.Nat.{ℕ, suc, _+_}
 use native.Mathlib.Omega.{arith}
 use lib.ListN.{length, take, drop, take-append-drop}
 use lib.Seq.{take-append-seam, drop-append-seam}
-use Rattle.format.specs.Line.{Form, Read, read, faultAt, below, next, mapped}
+use Rattle.format.specs.Line.{Form, Read, read, faultAt, below, mapped}
 use Rattle.format.proofs.Reading.{fault-read, next-told, mapped-told}
 use Rattle.status.specs.Lines.{Entry, wanted, wantedOf, entryText}
 use Rattle.status.specs.Reading.{readEntry, readDue, readDues}

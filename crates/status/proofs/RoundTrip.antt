@@ -1,8 +1,8 @@
 -- Written and read, each from the other: the whole text. Assumes nothing.
 use mathlib.Core.Path.{_≡_, refl, sym, ap, _∙_, subst}
 use mathlib.Core.List.{List, [], _∷_, _++_, append-nil}
-use mathlib.Core.Bool.{Bool, true, false, cond}
-use Prim.Native.Nat.{ℕ, zero, suc, _≤_}
+use mathlib.Core.Bool.{true}
+use Prim.Native.Nat.{ℕ, suc}
 use native.Mathlib.Omega.{arith}
 use lib.Dec.{eqb}
 use lib.ListN.{length, getD, take, drop}
@@ -10,14 +10,13 @@ use Rattle.credentials.specs.Validity.{valid}
 use Rattle.credentials.specs.declared.Credentials.{Credentials}
 use Rattle.rules.specs.Fields.{number}
 use Rattle.format.specs.Line.{Form, valueText, Read, read, faultAt, newline, startsWith}
-use Rattle.format.specs.Sheet.{idValues}
 use Rattle.format.specs.Report.{report}
 use Rattle.format.proofs.Sheets.{flag-read, flag-written, flag-small, valid-writable}
 use Rattle.status.specs.declared.Status.{Status}
-use Rattle.status.specs.declared.Reading.the-variants.{Shows, Malformed}
+use Rattle.status.specs.declared.Reading.the-variants.{Shows}
 use Rattle.status.specs.Lines.{linesOf, textOf, Entry, entries, beginsOne, wanted, wantedOf, valuesText, entryText, statusLines, statusText}
 use Rattle.status.specs.Reading.{readDues, statusOf, shown, readStatus}
-use Rattle.status.specs.Comparing.{shownOf, lastLine, listText, laid, compared}
+use Rattle.status.specs.Comparing.{shownOf, lastLine, laid, compared}
 use Rattle.status.specs.RoundTrip.{Writable, Lacks, AreLines, RoundTrip}
 use Rattle.status.proofs.Lacking.{both-lack, lacking, lacks-by, value-lacks}
 use Rattle.status.proofs.Values.{FitForms}

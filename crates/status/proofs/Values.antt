@@ -1,20 +1,18 @@
 -- The values of a wanted line, written and read, each from the other. Assumes nothing.
 use mathlib.Core.Path.{_≡_, refl, sym, ap, _∙_}
 use mathlib.Core.List.{List, [], _∷_, _++_, append-assoc, append-nil}
-use mathlib.Core.Bool.{Bool, true, false, cond}
-use Prim.Native.Nat.{ℕ, zero, suc, _+_}
+use Prim.Native.Nat.{ℕ, _+_}
 use native.Mathlib.Omega.{arith}
 use borrow.Author.Tests.{eqb-true}
 use lib.Dec.{eqb}
 use lib.ListN.{length, length-append}
-use Rattle.format.specs.Line.{Form, valueText, Read, read, fault, faultAt, next, mapped, newline, bytes, readValue, keyedText, afterKey}
+use Rattle.format.specs.Line.{Form, valueText, Read, read, faultAt, next, mapped, newline, bytes, readValue, keyedText, afterKey}
 use Rattle.format.proofs.Fitting.{Fits}
 use Rattle.format.proofs.Reading.{fault-read, tested, next-told, mapped-told}
 use Rattle.format.proofs.WrittenRead.{keyed-read, key-read}
 use Rattle.format.proofs.ReadWritten.{keyed-written, key-written}
 use Rattle.status.specs.Lines.{Entry, valuesText, entryText}
 use Rattle.status.specs.Reading.{tab, upTo, since, ended, valueOf, readValues, readEntry}
-use Rattle.status.specs.RoundTrip.{Lacks}
 use Rattle.status.proofs.Lacking.{value-lacks, up-to-first, since-first, up-to-end, since-end, parted}
 
 -- a value for each form, each one that it can hold

@@ -111,17 +111,17 @@ pub wanted-set : (t : List ℕ) → 0 < length t → getD t 0 0 ≡ 67
     || (startsWith (bytes "CapPrm:") t || (startsWith (bytes "CapEff:") t || (startsWith (bytes "CapBnd:") t || startsWith (bytes "CapAmb:") t)))
 unfolding wanted beginsOne entries startsWith
 wanted-set [] h e = absurd (omega arith)
-wanted-set (b ∷ t) h e = rw (e, or-false)
+wanted-set (b ∷ t) h e = rw (e, or-false (startsWith (bytes "CapAmb:") (67 ∷ t)))
 
 pub wanted-ids : (t : List ℕ) → 0 < length t → getD t 0 0 ≡ 85 → wanted t ≡ startsWith (bytes "Uid:") t
 unfolding wanted beginsOne entries startsWith
 wanted-ids [] h e = absurd (omega arith)
-wanted-ids (b ∷ t) h e = rw (e, or-false)
+wanted-ids (b ∷ t) h e = rw (e, or-false (startsWith (bytes "Uid:") (85 ∷ t)))
 
 pub wanted-flag : (t : List ℕ) → 0 < length t → getD t 0 0 ≡ 78 → wanted t ≡ startsWith (bytes "NoNewPrivs:") t
 unfolding wanted beginsOne entries startsWith
 wanted-flag [] h e = absurd (omega arith)
-wanted-flag (b ∷ t) h e = rw (e, or-false)
+wanted-flag (b ∷ t) h e = rw (e, or-false (startsWith (bytes "NoNewPrivs:") (78 ∷ t)))
 
 pub wanted-other : (t : List ℕ) → 0 < length t → (getD t 0 0 ≡ 67 → ⊥) → (getD t 0 0 ≡ 85 → ⊥) → (getD t 0 0 ≡ 78 → ⊥) → wanted t ≡ false
 unfolding wanted beginsOne entries startsWith

@@ -3,21 +3,17 @@ use mathlib.Core.Path.{_≡_, refl, sym, ap, _∙_}
 use mathlib.Core.List.{List, [], _∷_, _++_}
 use mathlib.Core.Bool.{Bool, true, false, cond, true≢false}
 use Prim.Native.Nat.{ℕ, suc, _+_, _-_, _<_, _≤_}
-use native.Mathlib.Nat.{zero-add, add-assoc}
+use native.Mathlib.Nat.{add-assoc}
 use native.Mathlib.Numerals.{add-one}
 use native.Mathlib.Omega.{arith}
 use borrow.Author.Tests.{lt-ltb, le-ltb}
-use lib.Dec.{eqb, ltb}
 use lib.ListN.{length, take, drop, getD, drop-of-length-le}
 use lib.Seq.{drop-cons, drop-drop}
 use Rattle.credentials.specs.declared.Ids.{Ids}
-use Rattle.format.specs.Line.{Read, read, faultAt, fault, below, next, mapped, newline}
+use Rattle.format.specs.Line.{Read, read, faultAt, fault, below, mapped, newline}
 use Rattle.format.specs.Sheet.{idValues}
-use Rattle.status.specs.declared.Status.{Status}
-use Rattle.status.specs.declared.Reading.{Reading}
-use Rattle.status.specs.declared.Reading.the-variants.{Shows, Malformed}
 use Rattle.status.specs.Lines.{linesOf, Entry, entries, idsEntry, setEntry, flagEntry, wanted}
-use Rattle.status.specs.Reading.{upTo, since, readEntry, readDue, readDues, statusOf, shown, readStatus}
+use Rattle.status.specs.Reading.{upTo, since, readEntry, readDue, readDues, shown, readStatus}
 use Rattle.status.proofs.Lines.{first-line}
 use Rattle.status_reader.specs.declared.values.Value.{Value}
 use Rattle.status_reader.specs.declared.values.Value.the-variants as VV

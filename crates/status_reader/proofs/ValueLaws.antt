@@ -5,11 +5,11 @@ use mathlib.Core.Bool.{Bool, true, false, cond, _&&_}
 use Prim.Native.Nat.{ℕ, zero, suc, _+_, _-_, _*_, _<_, _≤_}
 use native.Mathlib.Numerals.{add-one}
 use native.Mathlib.Omega.{arith}
-use borrow.Author.Tests.{lt-ltb, le-ltb, le-leb, lt-leb, ne-eqb, ltb-true, ltb-false}
+use borrow.Author.Tests.{lt-ltb, le-leb, lt-leb, ne-eqb, ltb-true, ltb-false}
 use lib.Dec.{ltb, leb, eqb}
 use lib.ListN.{length, getD, drop, drop-of-length-le}
 use lib.Seq.{drop-cons}
-use Rattle.format.specs.Line.{bytes, decimal, Read, read, faultAt, fault, hexDigit, decimalDigit, newline, readHex, readDigits, readDecimal}
+use Rattle.format.specs.Line.{bytes, decimal, Read, read, fault, hexDigit, decimalDigit, newline, readHex, readDigits, readDecimal}
 use Rattle.status.specs.Lines.{setForm}
 use Rattle.status.specs.Reading.{ended, valueOf}
 

@@ -8,7 +8,7 @@ use lib.ListN.{length, take, drop}
 use Rattle.format.specs.Line.{Form, Read, read, faultAt, fault, below, next, mapped}
 use Rattle.format.specs.Sheet.{idValues}
 use Rattle.status.specs.Lines.{linesOf, Entry, idsEntry}
-use Rattle.status.specs.Reading.{tab, upTo, since, valueOf, readValues, readEntry, readDue, readDues}
+use Rattle.status.specs.Reading.{tab, upTo, since, valueOf, readValues, readDue, readDues}
 use Rattle.status_reader.specs.declared.values.Value.{Value}
 use Rattle.status_reader.specs.declared.values.Value.the-variants as VV
 use Rattle.status_reader.specs.declared.lines.IdsLine.{IdsLine}

@@ -1,6 +1,6 @@
 // A line, without its newline: whether it is wanted, and the values of each kind of wanted line.
 ghost use mathlib.Core.Path.{_≡_};
-ghost use Prim.Native.Nat.{ℕ, _+_, _≤_};
+ghost use Prim.Native.Nat.{_+_, _≤_};
 ghost use mathlib.Core.List.{List, [], _∷_};
 ghost use lib.ListN.{length, drop};
 ghost use Rattle.format.specs.Line.{Form, startsWith};

@@ -1,10 +1,10 @@
 // The next wanted line from a place on: its values and the place past it. After a fault nothing is read.
 ghost use mathlib.Core.Path.{_≡_};
-ghost use Prim.Native.Nat.{ℕ, _+_, _≤_};
+ghost use Prim.Native.Nat.{_+_, _≤_};
 ghost use mathlib.Core.List.{List, [], _∷_};
 ghost use lib.ListN.{length};
 ghost use Rattle.hex_tables.specs.Tables.{readingTable};
-ghost use Rattle.status.specs.Lines.{Entry, idsEntry, flagEntry, setForm};
+ghost use Rattle.status.specs.Lines.{Entry, flagEntry, setForm};
 ghost use Rattle.status_reader.specs.Inside.{from, found, Extent, Good, IdsAhead, NumberAhead, DueAhead, DueGood, Short, pastLine, faultAtLine, onward};
 use crate::lines::IdsLine;
 use crate::lines::find;

@@ -1,11 +1,9 @@
 -- `status_reader::read_status` meets its contract. Assumes nothing.
-use mathlib.Core.Path.{_≡_, sym, ap, _∙_}
-use mathlib.Core.List.{List, []}
+use mathlib.Core.Path.{sym, _∙_}
+use mathlib.Core.List.{[]}
 use mathlib.Core.Bool.{false}
-use Prim.Native.Nat.{ℕ}
 use native.Mathlib.Omega.{arith}
 use borrow.Author.Needs.{needs}
-use Rattle.format.specs.Line.{Read}
 use Rattle.status_reader.specs.declared.places.Place.{Place}
 use Rattle.status_reader.proofs.PlaceLaws.{answered, seven, after-fault, no-fault, fault-further, all-read}
 use Rattle.status_reader.proofs.read_status.Statement.{statement}

@@ -1,11 +1,11 @@
 -- `status_reader::lines::id_at` meets its contract. Assumes nothing.
-use mathlib.Core.Path.{refl, sym, ap, _∙_}
+use mathlib.Core.Path.{sym}
 use Prim.Native.Nat.{_+_}
 use native.Mathlib.Omega.{arith}
 use borrow.Author.Needs.{needs}
 use lib.ListN.{drop}
 use Rattle.status.specs.Lines.{idForm}
-use Rattle.status.specs.Reading.{tab, valueOf}
+use Rattle.status.specs.Reading.{tab}
 use Rattle.status_reader.proofs.LineLaws.{up-to-part, none-left, one-left, none-follows, not-followed, followed}
 use Rattle.status_reader.proofs.lines.id_at.Statement.{statement}
 use Rattle.status_reader.proofs.lines.id_at.Tie as tie

@@ -1,7 +1,6 @@
 -- `status_reader::places::due_line` meets its contract. Assumes nothing.
 use mathlib.Core.Path.{sym, ap, _∙_}
 use mathlib.Core.List.{_∷_}
-use native.Mathlib.Omega.{arith}
 use borrow.Author.Needs.{needs}
 use Rattle.format.specs.Line.{faultAt}
 use Rattle.status_reader.specs.declared.places.Place.{Place}

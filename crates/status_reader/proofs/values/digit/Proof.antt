@@ -1,8 +1,7 @@
 -- `status_reader::values::digit` meets its contract. Assumes nothing.
-use mathlib.Core.Path.{_≡_, sym, ap, _∙_}
+use mathlib.Core.Path.{_∙_}
 use borrow.Author.Needs.{needs}
 use borrow.Author.Tests.{lt-ltb}
-use Rattle.hex_tables.specs.Tables.{hexDigitBy}
 use Rattle.hex_tables.proofs.Format.{by-the-tables}
 use Rattle.status_reader.proofs.values.digit.Statement.{statement}
 use Rattle.status_reader.proofs.values.digit.Tie as tie
