@@ -1,4 +1,5 @@
-// The C interface, on byte slices and numbers, a number back: the plan runner, and the readers and writers of sheets, attributes and sets in names.
+// The C interface, on byte slices and numbers, a number back: the plan runner, the readers and writers of sheets, attributes and sets in names, and the
+// comparison of a status text.
 //
 // In C a slice is a pointer and a length. No two slices of a call may overlap; any may be empty. The number is the code times 4294967296, plus a line,
 // a place, a length or a count. What a reader gives are 64-bit numbers, in a slice that the caller lends. The crate assumes nothing.

@@ -13,7 +13,7 @@ use Rattle.status.specs.declared.Status.{Status}
 use Rattle.status.specs.Lines.{linesOf}
 use Rattle.status.specs.RoundTrip.{Lacks}
 use Rattle.status.specs.Comparing.{idKeys, setKeys, flagKeys, keys, valuesOf, differenceText, differences, differing, lastLine, listText}
-use Rattle.status.specs.Listed.{butLast, space, firstWords, listedKeys, differingKeys, same, times, keyOf, sheetLine, Listed}
+use Rattle.status.specs.Listed.{butLast, space, firstWords, listedKeys, differingKeys, same, times, keyOf, sheetKindsOf, Listed}
 use Rattle.status.proofs.Lacking.{both-lack, value-lacks, up-to-first}
 use Rattle.status.proofs.Lines.{line-then}
 
@@ -215,8 +215,8 @@ once predicted found i h =
 
 -- ---- the statement
 
-order : sheetLine keys ≡ uidKinds ++ (setKinds ++ (kind "nnp=" (decimal 1) ∷ []))
-unfolding sheetLine idKeys setKeys flagKeys keys idKinds uidKinds setKinds
+order : sheetKindsOf keys ≡ uidKinds ++ (setKinds ++ (kind "nnp=" (decimal 1) ∷ []))
+unfolding sheetKindsOf idKeys setKeys flagKeys keys idKinds uidKinds setKinds
 order = refl
 
 pub listed : Listed

@@ -18,10 +18,11 @@ butLast [] = []
 butLast (l ∷ []) = []
 butLast (l ∷ m ∷ ls) = l ∷ butLast (m ∷ ls)
 
--- the first word of each line, which a space ends
+-- the byte that ends a word
 abbrev pub space : ℕ
 space = 32
 
+-- the first word of each line
 unfoldable pub firstWords : List (List ℕ) → List (List ℕ)
 firstWords [] = []
 firstWords (l ∷ ls) = upTo space l ∷ firstWords ls
@@ -53,14 +54,14 @@ times t (u ∷ us) = cond (same t u) (suc (times t us)) (times t us)
 abbrev pub keyOf : ℕ → List ℕ
 keyOf i = getD keys i (kind "" (decimal 0)) .key
 
--- a sheet's line of a key: the same form, and `=` behind the key
-unfoldable pub sheetLine : List Kind → List Kind
-sheetLine [] = []
-sheetLine (k ∷ ks) = record { key = k .key ++ bytes "="; form = k .form } ∷ sheetLine ks
+-- the lines of these keys in a sheet: the same forms, and `=` behind each key
+unfoldable pub sheetKindsOf : List Kind → List Kind
+sheetKindsOf [] = []
+sheetKindsOf (k ∷ ks) = record { key = k .key ++ bytes "="; form = k .form } ∷ sheetKindsOf ks
 
 pub record Listed : Type 0 where
   -- the compared keys are the sheet's, in its order and with its forms, without group IDs and securebits
-  pub sheet-order : sheetLine keys ≡ uidKinds ++ (setKinds ++ (kind "nnp=" (decimal 1) ∷ []))
+  pub sheet-order : sheetKindsOf keys ≡ uidKinds ++ (setKinds ++ (kind "nnp=" (decimal 1) ∷ []))
   -- the list is empty, the last line standing alone, exactly if all ten keys agree
   pub empty : (predicted found : Status) → valuesOf predicted ≡ valuesOf found → listText predicted found ≡ lastLine
   pub all-agree : (predicted found : Status) → listText predicted found ≡ lastLine → valuesOf predicted ≡ valuesOf found
