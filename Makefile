@@ -8,8 +8,8 @@ SHELL := /bin/bash
 N = 1000000
 OPTIONS =
 
-# How many proofs and edits run at a time: rt waits for the slowest of a batch, so one more than there are cores keeps these busy.
-export RT_JOBS ?= 3
+# How many proofs and edits run at a time: rt waits for the slowest of a batch, so two more than there are cores keep these busy.
+export RT_JOBS ?= 4
 
 CARGO_RUN := cargo run --quiet --offline --release --manifest-path host/Cargo.toml
 
