@@ -10,7 +10,13 @@ pub const DONE: u8 = 0;
 // The rules refuse the call (EPERM).
 pub const NOT_PERMITTED: u8 = 1;
 
-// Number, operands and attribute make no call, or what is to be written is out of its range (EINVAL).
+// The slot that a step names is not in use (ESRCH).
+pub const NO_THREAD: u8 = 3;
+
+// A fork finds no free slot (EAGAIN).
+pub const NO_SLOT: u8 = 11;
+
+// Number, operands and attribute make no call, or the slot that a step names is none, or what is to be written is out of its range (EINVAL).
 pub const INVALID_ARGUMENT: u8 = 22;
 
 // What is to be written is longer than the lent buffer (ENOSPC).

@@ -24,7 +24,7 @@ unfoldable pub usesOne : ℕ → ℕ → ℕ → Bool
 usesOne b c size = eqb b 0 && usesTwo c size
 
 -- a call that uses no operand has a 0 besides
-abbrev usesNone : ℕ → ℕ → ℕ → ℕ → Bool
+abbrev pub usesNone : ℕ → ℕ → ℕ → ℕ → Bool
 usesNone a b c size = eqb a 0 && usesOne b c size
 
 -- a capability's number is at most 40

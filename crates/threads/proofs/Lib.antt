@@ -1,0 +1,4 @@
+pub mod Free
+pub mod StepCases
+pub mod Slots
+pub mod Lives
