@@ -197,3 +197,11 @@ lines-alike (k ∷ ks) u more left h =
 pub attribute-alike : (key u more : List ℕ) (left : ℕ) → length key + 49 + left ≤ length u
     → Alike more left (readAttribute key u) (readAttribute key (u ++ more))
 attribute-alike key u more left h = line-alike (attribute key) u more left h
+
+-- what does not depend on the text left over
+pub value-alike : {A B : Type 0} (more : List ℕ) (f : Read A → B) → ((v : A) (t u : List ℕ) → f (read v t) ≡ f (read v u)) → (r s : Read A) → Alike more 0 r s
+    → f r ≡ f s
+value-alike more f same (read v t) (read w u) h = ap (λ x. f (read x t)) (h .0) ∙ same w t u
+value-alike more f same (read v t) (faultAt line) h = absurd h
+value-alike more f same (faultAt line) (read w u) h = absurd h
+value-alike more f same (faultAt line) (faultAt other) h = ap (λ (n : ℕ). f (faultAt n)) h

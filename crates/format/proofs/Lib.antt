@@ -12,5 +12,6 @@ pub mod ReadWritten
 pub mod Reading
 pub mod RoundTrip
 pub mod Sheets
+pub mod Many
 pub mod Steps
 pub mod WrittenRead

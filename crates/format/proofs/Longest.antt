@@ -25,9 +25,10 @@ use Rattle.format.specs.Plan.{Plan, stepsText, planText, MOST-STEPS, rea
 use Rattle.format.specs.Report.{resultText, resultsText, reportText, report, malformed, invalid, judged, verdict}
 use Rattle.format.specs.RoundTrip.{Writable, WritableSheet, AllWritable}
 use Rattle.format.specs.Longest.{longestSheet, longestPlan, longestReport, Longest}
-use Rattle.format.proofs.Alike.{Alike, mapped-alike, next-alike, lines-alike, attribute-alike}
+use Rattle.format.proofs.Alike.{Alike, value-alike, mapped-alike, next-alike, lines-alike, attribute-alike}
 use Rattle.format.proofs.Decimals.{below-or-not}
 use Rattle.format.proofs.Lengths.{length-one, at-most, mostLines, length-lines, length-result-lines, length-attribute}
+use Rattle.format.proofs.Many.{length-many, many-alike}
 use Rattle.format.proofs.Sheets as Sheets
 use Rattle.format.proofs.Steps as Steps
 use Rattle.format.proofs.RoundTrip.{sheet-round-trip, plan-round-trip}
@@ -36,7 +37,7 @@ use Rattle.format.proofs.Reached.{start, sheet, sheet-read, sheet-lengt
 -- ---- sheets, steps and plans
 
 -- 204 bytes without the digits of the IDs, and eight times 10 digits
-most-sheet : mostLines sheetKinds ≤ 284
+pub most-sheet : mostLines sheetKinds ≤ 284
 unfolding mostLines idKinds uidKinds gidKinds setKinds flagKinds sheetKinds
 most-sheet = omega (arith, at-most 9 4294967295 (omega arith), length-one 1 (omega arith))
 
@@ -45,12 +46,12 @@ most-step : mostLines stepKinds ≤ 65
 unfolding mostLines stepKinds
 most-step = omega (arith, at-most 1 99 (omega arith))
 
-length-sheet : (c : Credentials) → WritableSheet c → length (sheetText c) ≤ 284
+pub length-sheet : (c : Credentials) → WritableSheet c → length (sheetText c) ≤ 284
 unfolding sheetText
 length-sheet c w = omega (arith, length-lines sheetKinds (sheetValues c) (Sheets.values-fit c w), most-sheet)
 
 -- with an attribute's line of 54
-length-step : (s : Step) → Writable s → length (stepText s) ≤ 119
+pub length-step : (s : Step) → Writable s → length (stepText s) ≤ 119
 unfolding stepText
 length-step s w =
     let vs = s .number ∷ s .a ∷ s .b ∷ s .c ∷ [] in
@@ -63,9 +64,7 @@ length-step s w =
     )
 
 length-steps : (ss : List Step) → AllWritable ss → length (stepsText ss) ≤ length ss * 119
-unfolding stepsText AllWritable
-length-steps [] w = omega arith
-length-steps (s ∷ ss) w = omega (arith, length-append (stepText s) (stepsText ss), length-step s (w .0), length-steps ss (w .1))
+length-steps = length-many stepText Writable 119 length-step
 
 length-plan : (text : List ℕ) (p : Plan) (rest : List ℕ) → readPlan text ≡ read p rest → length text ≤ longestPlan
 unfolding planText
@@ -97,7 +96,7 @@ cause-small IdNotAllowed = omega arith
 cause-small LaunchFallsShort = omega arith
 
 -- a code of two digits has cause 0, and a cause of two digits has code 1
-three-digits : (a : Answer) → length (decimalText (code a)) + length (decimalText (cause a)) ≤ 3
+pub three-digits : (a : Answer) → length (decimalText (code a)) + length (decimalText (cause a)) ≤ 3
 three-digits (Done v c) = omega (arith, at-most 0 0 (omega arith))
 three-digits (NotPermitted why) = omega (arith, at-most 0 1 (omega arith), at-most 1 (causeNumber why) (omega (arith, cause-small why)))
 three-digits InvalidArgument = omega (arith, at-most 1 22 (omega arith), at-most 0 0 (omega arith))
@@ -153,7 +152,7 @@ length-verdict text t e = length-judged text t (readPlan text) refl e
 -- ---- a text that is cut
 
 -- a text that is longer than a step by so many bytes
-step-alike : (u more : List ℕ) (left : ℕ) → 119 + left ≤ length u → Alike more left (readStep u) (readStep (u ++ more))
+pub step-alike : (u more : List ℕ) (left : ℕ) → 119 + left ≤ length u → Alike more left (readStep u) (readStep (u ++ more))
 unfolding readStep
 step-alike u more left h =
     next-alike more left _ (54 + left) (readLines stepKinds u) (readLines stepKinds (u ++ more)) _
@@ -164,14 +163,7 @@ step-alike u more left h =
 
 -- one byte more than n steps have
 steps-alike : (n : ℕ) (u more : List ℕ) → n * 119 + 1 ≤ length u → Alike more 0 (readSteps n u) (readSteps n (u ++ more))
-unfolding readSteps
-steps-alike zero [] more h = absurd (omega (arith, h))
-steps-alike zero (b ∷ t) more h = refl
-steps-alike (suc n) [] more h = absurd (omega (arith, h))
-steps-alike (suc n) (b ∷ t) more h =
-    next-alike more 0 _ (n * 119 + 1) (readStep (b ∷ t)) (readStep (b ∷ (t ++ more))) _
-    (step-alike (b ∷ t) more (n * 119 + 1) (omega (arith, h)))
-    (λ s r g. mapped-alike more 0 (λ ss. s ∷ ss) (readSteps n r) (readSteps n (r ++ more)) (steps-alike n r more g))
+steps-alike = many-alike (length stepKinds + 1) readStep 119 step-alike
 
 -- one byte more than a plan has
 plan-alike : (u more : List ℕ) → 30749 ≤ length u → Alike more 0 (readPlan u) (readPlan (u ++ more))
@@ -184,15 +176,8 @@ plan-alike u more h =
     mapped-alike more 0 (λ ss. record { start = c; steps = ss }) (readSteps MOST-STEPS r) (readSteps MOST-STEPS (r ++ more))
     (steps-alike MOST-STEPS r more (omega (arith, g))))
 
--- what comes of a plan does not depend on the text left over
-judged-alike : (more : List ℕ) (r s : Read Plan) → Alike more 0 r s → judged r ≡ judged s
-judged-alike more (read p t) (read q u) h = ap (λ (x : Plan). judged (read x t)) (h .0)
-judged-alike more (read p t) (faultAt line) h = absurd h
-judged-alike more (faultAt line) (read q u) h = absurd h
-judged-alike more (faultAt line) (faultAt other) h = ap malformed h
-
 -- what does not depend on the text after its first n bytes is the same of those alone
-cut-at : {A : Type 0} (f : List ℕ → A) (n : ℕ) → ((u more : List ℕ) → n ≤ length u → f u ≡ f (u ++ more)) → (text : List ℕ) → f (take n text) ≡ f text
+pub cut-at : {A : Type 0} (f : List ℕ → A) (n : ℕ) → ((u more : List ℕ) → n ≤ length u → f u ≡ f (u ++ more)) → (text : List ℕ) → f (take n text) ≡ f text
 cut-at f n h text =
     ⊎-elim
     (λ (l : length text < n). ap f (take-all n text (omega (arith, l))))
@@ -202,7 +187,7 @@ cut-at f n h text =
 -- a text that is cut where that byte ends
 cut : (text : List ℕ) → verdict (take 30749 text) ≡ verdict text
 unfolding verdict
-cut = cut-at verdict 30749 (λ u more h. judged-alike more (readPlan u) (readPlan (u ++ more)) (plan-alike u more h))
+cut = cut-at verdict 30749 (λ u more h. value-alike more judged (λ p t s. refl) (readPlan u) (readPlan (u ++ more)) (plan-alike u more h))
 
 -- ---- a sheet that is cut
 

@@ -15,21 +15,29 @@ pub record Plan : Type 0 where
 
 -- ---- written
 
-unfoldable pub stepsText : List Step → List ℕ
-stepsText [] = []
-stepsText (s ∷ ss) = stepText s ++ stepsText ss
+-- texts one after the other
+unfoldable pub manyText : {A : Type 0} → (A → List ℕ) → List A → List ℕ
+manyText text [] = []
+manyText text (x ∷ xs) = text x ++ manyText text xs
+
+abbrev pub stepsText : List Step → List ℕ
+stepsText ss = manyText stepText ss
 
 unfoldable pub planText : Plan → List ℕ
 planText p = sheetText (p .start) ++ stepsText (p .steps)
 
 -- ---- read
 
--- up to n steps to the end of the text; one more is a fault at its first line, whatever stands there
-unfoldable pub readSteps : ℕ → List ℕ → Read (List Step)
-readSteps zero [] = read [] []
-readSteps zero (b ∷ t) = faultAt 1
-readSteps (suc n) [] = read [] []
-readSteps (suc n) (b ∷ t) = next (length stepKinds + 1) (readStep (b ∷ t)) (λ s rest. mapped (λ ss. s ∷ ss) (readSteps n rest))
+-- up to n texts of so many lines each, one after the other to the end of the text; one more is a fault at its first line, whatever stands there
+unfoldable pub readMany : {A : Type 0} → ℕ → (List ℕ → Read A) → ℕ → List ℕ → Read (List A)
+readMany lines one zero [] = read [] []
+readMany lines one zero (b ∷ t) = faultAt 1
+readMany lines one (suc n) [] = read [] []
+readMany lines one (suc n) (b ∷ t) = next lines (one (b ∷ t)) (λ x rest. mapped (λ xs. x ∷ xs) (readMany lines one n rest))
+
+-- up to n steps of five lines each
+abbrev pub readSteps : ℕ → List ℕ → Read (List Step)
+readSteps n t = readMany (length stepKinds + 1) readStep n t
 
 -- the most steps of a plan
 abbrev pub MOST-STEPS : ℕ

@@ -54,10 +54,14 @@ pub record WritableSheet (c : Credentials) : Type 0 where
   pub ambient : c .sets .ambient < 2 ^ 64
   pub securebits : c .securebits ≤ 255
 
+-- something holds of each in a list
+unfoldable pub Every : {A : Type 0} → (A → Type 0) → List A → Type 0
+Every P [] = Unit
+Every P (x ∷ xs) = P x × Every P xs
+
 -- every step is what a step can hold
-unfoldable pub AllWritable : List Step → Type 0
-AllWritable [] = Unit
-AllWritable (s ∷ ss) = Writable s × AllWritable ss
+abbrev pub AllWritable : List Step → Type 0
+AllWritable ss = Every Writable ss
 
 -- what a plan can hold: such a start, and at most 256 such steps
 pub record WritablePlan (p : Plan) : Type 0 where

@@ -1,5 +1,6 @@
 -- The ways in which a step in a slot can come out. Assumes nothing.
 use Prim.Native.Nat.{ℕ, _<_, _≤_}
+use native.Mathlib.Omega.{arith}
 use mathlib.Core.Path.{_≡_, refl, sym, subst}
 use mathlib.Core.Logic.{_⊎_, inl, inr}
 use mathlib.Core.Bool.{Bool, true, false, cond, _||_}
@@ -47,10 +48,11 @@ module _ (start : Credentials) (x : Step) (P : Decision → Type 0) where
 abbrev pub NoCall : Threads → SlotStep → Type 0
 NoCall table s = (SLOTS ≤ s .slot) ⊎ ((inUse table (s .slot) ≡ false) ⊎ (eqb (s .step .number) FORK || eqb (s .step .number) EXIT ≡ true))
 
--- a code that is neither 0 nor 11
+-- a code of at most two digits that is neither 0 nor 11
 pub record Other (n : ℕ) : Type 0 where
   pub not-0 : eqb n 0 ≡ false
   pub not-11 : eqb n 11 ≡ false
+  pub small : n ≤ 99
 
 -- credentials stored where they stood leave the table
 pub kept : (table : Threads) (slot : ℕ) → set (table .credentials) slot (held table slot) ≡ table .credentials
@@ -84,8 +86,8 @@ module _ (table : Threads) (s : SlotStep) (P : SlotResult → Type 0) where
       (λ w. cond-cases P (inUse table (s .slot)) _ _
       (λ u. let within = ltb-true (s .slot) SLOTS w in
       decided-cases (held table (s .slot)) (s .step) (λ (d : Decision). P (carriedOut table (s .slot) d))
-      (λ o. subst P (sym (refused-argument table (s .slot))) (refuses 22 (record { not-0 = refl; not-11 = refl }) (inr (inr o))))
-      (λ o. subst P (sym (refused-credentials table (s .slot))) (refuses 72 (record { not-0 = refl; not-11 = refl }) (inr (inr o))))
+      (λ o. subst P (sym (refused-argument table (s .slot))) (refuses 22 (record { not-0 = refl; not-11 = refl; small = omega arith }) (inr (inr o))))
+      (λ o. subst P (sym (refused-credentials table (s .slot))) (refuses 72 (record { not-0 = refl; not-11 = refl; small = omega arith }) (inr (inr o))))
       (forks within u) (exits within u) (calls within u))
-      (λ u. refuses 3 (record { not-0 = refl; not-11 = refl }) (inr (inl u))))
-      (λ w. refuses 22 (record { not-0 = refl; not-11 = refl }) (inl (ltb-false (s .slot) SLOTS w)))
+      (λ u. refuses 3 (record { not-0 = refl; not-11 = refl; small = omega arith }) (inr (inl u))))
+      (λ w. refuses 22 (record { not-0 = refl; not-11 = refl; small = omega arith }) (inl (ltb-false (s .slot) SLOTS w)))

@@ -1,0 +1,4 @@
+pub mod SlotPlan
+pub mod SlotReport
+pub mod RoundTrip
+pub mod Longest
