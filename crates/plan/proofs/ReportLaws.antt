@@ -27,7 +27,7 @@ use Rattle.line_writer.proofs.LineLaws.{sets-append, lines-put}
 use Rattle.sheet_writer.specs.Positions.{bufferAt, bufferBy}
 use Rattle.sheet_writer.proofs.Answers.{buffer-by-the-table}
 use Rattle.rules.proofs.Demand3.{demand-3}
-use Rattle.plan.specs.Inside.{Ran, codesOf, valuesOf, causesOf, ranOf, ranSteps, answersText}
+use Rattle.plan.specs.Inside.{Ran, numbersOf, ranOf, ranSteps, answersText}
 
 -- ---- the results' lines
 
@@ -77,8 +77,8 @@ result-put table vs old at e h =
 
 -- ---- the report
 
-results-text : (rs : List Result) → resultsText rs ≡ answersText (codesOf rs) (valuesOf rs) (causesOf rs)
-unfolding resultsText resultText answersText codesOf valuesOf causesOf
+results-text : (rs : List Result) → resultsText rs ≡ answersText (numbersOf (λ r. r .code) rs) (numbersOf (λ r. r .value) rs) (numbersOf (λ r. r .cause) rs)
+unfolding resultsText resultText answersText numbersOf
 results-text [] = refl
 results-text (r ∷ rs) = ap (λ (t : List ℕ). linesText resultKinds (r .code ∷ r .value ∷ r .cause ∷ []) ++ t) (results-text rs)
 
@@ -120,17 +120,17 @@ module _ (text : List ℕ) where
   unfolding verdict readPlan ranSteps sheetKinds idKinds uidKinds gidKinds setKinds flagKinds
   steps-at-fault c rest line h g = rw (h, mapped-fault (ranOf c) (readSteps 256 rest) line g)
 
-  pub plan-ran : (c : Credentials) (rest : List ℕ) (x : Ran) → readFront text ≡ read c rest → ranSteps 256 c rest ≡ read x []
+  pub plan-ran : (c : Credentials) (rest : List ℕ) (x : Ran Credentials) → readFront text ≡ read c rest → ranSteps 256 c rest ≡ read x []
       → verdict text ≡ cond (valid c) (report (answersText (x .codes) (x .values) (x .causes) ++ sheetText (x .last))) invalid
   unfolding verdict readPlan ranSteps reportText
   plan-ran c rest x h g =
       let s = mapped-told x [] (ranOf c) (readSteps 256 rest) g in
       rw (h, s .1, results-text (run c (s .0)))
-      (ap (λ (y : Ran). cond (valid c) (report (answersText (y .codes) (y .values) (y .causes) ++ sheetText (y .last))) invalid) (s .2))
+      (ap (λ (y : Ran Credentials). cond (valid c) (report (answersText (y .codes) (y .values) (y .causes) ++ sheetText (y .last))) invalid) (s .2))
 
   -- what a plan that starts valid leaves is valid: demand 3
-  pub last-valid : (c : Credentials) (rest : List ℕ) (x : Ran) → valid c ≡ true → ranSteps 256 c rest ≡ read x [] → valid (x .last) ≡ true
+  pub last-valid : (c : Credentials) (rest : List ℕ) (x : Ran Credentials) → valid c ≡ true → ranSteps 256 c rest ≡ read x [] → valid (x .last) ≡ true
   unfolding ranSteps
   last-valid c rest x v g =
       let s = mapped-told x [] (ranOf c) (readSteps 256 rest) g in
-      ap (λ (y : Ran). valid (y .last)) (sym (s .2)) ∙ demand-3 c v (s .0) .ends-valid
+      ap (λ (y : Ran Credentials). valid (y .last)) (sym (s .2)) ∙ demand-3 c v (s .0) .ends-valid

@@ -1,154 +1,169 @@
--- Laws of a step and of the steps of a plan, read and run. Assumes nothing.
+-- Laws of a step that is read from lines of some kinds and an attribute's: a plan's from five, a slot plan's from six. Assumes nothing.
 use native.Mathlib.Omega.{arith}
-use native.Mathlib.Numerals.{add-one}
 use mathlib.Core.Path.{_≡_, refl, sym, ap, _∙_}
-use mathlib.Core.Bool.{Bool, true, false, cond}
-use mathlib.Core.List.{List, [], _∷_, _++_, append-assoc, append-nil}
-use Prim.Native.Nat.{ℕ, zero, suc, _+_, _-_, _*_, _%_, _^_, _<_, _≤_}
-use lib.ListN.{length, getD, take, drop, length-append, drop-of-length-le}
-use lib.Seq.{drop-cons, length-take-le}
-use Rattle.credentials.specs.declared.Credentials.{Credentials}
-use Rattle.rules.specs.Run.{Step, Result, result, run, lastOf}
-use Rattle.format.specs.Line.{Read, read, faultAt, fault, below, mapped, readLines}
+use mathlib.Core.Bool.{Bool, true, false, cond, true≢false}
+use mathlib.Core.List.{List, [], _∷_}
+use Prim.Native.Nat.{ℕ, _+_, _%_, _^_, _<_, _≤_}
+use lib.ListN.{length, getD, take, drop}
+use Rattle.rules.specs.Run.{Step}
+use Rattle.format.specs.Line.{decimal, Kind, Read, read, faultAt, fault, below, next, mapped, readLine, readLines}
 use Rattle.format.specs.Step.{stepKinds, attributeKey, readAttribute, stepOf, readStep}
-use Rattle.format.specs.Plan.{readSteps}
-use Rattle.format.proofs.Reading.{mapped-told, mapped-fault}
+use Rattle.slot_format.specs.SlotPlan.{slotKind, readSlotStep}
+use Rattle.slots.specs.Turn.{slotStep}
+use Rattle.threads.specs.Step.{SlotStep}
 use Rattle.line_reader.specs.declared.Place.{Place}
 use Rattle.line_reader.specs.declared.Attribute.{Attribute}
+use Rattle.line_reader.specs.declared.Number.{Number}
 use Rattle.hex_tables.specs.Tables.{readingTable, readValueBy}
-use Rattle.line_reader.specs.Positions.{from, Values, linesBy, attributeBy}
+use Rattle.line_reader.specs.Positions.{from, Values, numberAt, linesAt, linesBy, attributeBy}
 use Rattle.line_reader.specs.Inside.{seen}
 use Rattle.line_reader.proofs.Answers.{lines-read, lines-most, lines-counted}
 use Rattle.line_reader.proofs.Attributes.{attribute-read, attribute-missed, attribute-skipped}
-use Rattle.plan.specs.Inside.{Ran, codesOf, valuesOf, causesOf, ranOf, ranSteps}
 
--- ---- one step
+module _ {A B : Type 0} (f : B → A) (g : List ℕ → List ℕ → B) (ks : List Kind) where
+  -- lines of these kinds and an attribute's, made into a step
+  abbrev stepBy : List ℕ → Read B
+  stepBy t = next (length ks) (readLines ks t) (λ vs rest. mapped (g vs) (readAttribute attributeKey rest))
 
-module _ {A : Type 0} (f : Step → A) (t : List ℕ) where
-  operands-at-fault : (line : ℕ) → readLines stepKinds t ≡ faultAt line → mapped f (readStep t) ≡ faultAt line
-  unfolding readStep
-  operands-at-fault line h = rw h
+  lines-at-fault : (t : List ℕ) (line : ℕ) → readLines ks t ≡ faultAt line → mapped f (stepBy t) ≡ faultAt line
+  lines-at-fault t line h = rw h
 
-  attribute-at-fault : (vs rest : List ℕ) → readLines stepKinds t ≡ read vs rest → readAttribute attributeKey rest ≡ fault → mapped f (readStep t) ≡ faultAt 5
-  unfolding readStep stepKinds
-  attribute-at-fault vs rest h g = rw (h, g)
+  attribute-at-fault : (t vs rest : List ℕ) → readLines ks t ≡ read vs rest → readAttribute attributeKey rest ≡ fault
+      → mapped f (stepBy t) ≡ faultAt (length ks + 1)
+  attribute-at-fault t vs rest h e = rw (h, e)
 
-  step-whole : (vs rest bs end : List ℕ) → readLines stepKinds t ≡ read vs rest → readAttribute attributeKey rest ≡ read bs end
-      → mapped f (readStep t) ≡ read (f (stepOf vs bs)) end
-  unfolding readStep
-  step-whole vs rest bs end h g = rw (h, g)
+  step-whole : (t vs rest bs end : List ℕ) → readLines ks t ≡ read vs rest → readAttribute attributeKey rest ≡ read bs end
+      → mapped f (stepBy t) ≡ read (f (g vs bs)) end
+  step-whole t vs rest bs end h e = rw (h, e)
 
--- its five lines, read one after the other from a position on by the table for reading
+  -- its lines, read one after the other from a position on by the table for reading
+  module _ (table text : List ℕ) (at : ℕ) (vs : List ℕ) (p : Place) (a : Attribute) (few : length ks < 99) (is : table ≡ readingTable)
+      (lines : linesBy table ks text (from at) ≡ record { values = vs; place = p }) (read-by : a ≡ attributeBy table attributeKey text p) where
+    attribute : a ≡ attributeBy readingTable attributeKey text p
+    attribute = read-by ∙ ap (λ (t : List ℕ). attributeBy t attributeKey text p) is
+
+    operands : readLines ks (drop at text) ≡ cond (p .fault) (faultAt (p .lines)) (read vs (drop (p .at) text))
+    operands =
+        lines-read ks text at (omega (arith, few))
+        ∙ ap (λ (v : Values). seen v text) (ap (λ (t : List ℕ). linesBy t ks text (from at)) (sym is) ∙ lines)
+
+    operands-by : (t : Bool) → p .fault ≡ t → readLines ks (drop at text) ≡ cond t (faultAt (p .lines)) (read vs (drop (p .at) text))
+    operands-by t h = operands ∙ ap (λ (x : Bool). cond x (faultAt (p .lines)) (read vs (drop (p .at) text))) h
+
+    fault-by : (t : Bool) → p .fault ≡ t → a .place .fault ≡ true
+        → (mapped f (stepBy (drop at text)) ≡ faultAt (a .place .lines)) × (a .place .lines ≤ length ks + 1)
+    fault-by true h e =
+        let skipped : a .place .lines ≡ p .lines = ap (λ (x : Place). x .lines) (attribute-skipped attributeKey text p a attribute h) in
+        let m : p .lines ≤ 0 + length ks = rw lines at (lines-most text (readValueBy table) ks (from at)) in
+        (lines-at-fault (drop at text) (p .lines) (operands-by true h) ∙ ap faultAt (sym skipped), omega (arith, skipped, m))
+    fault-by false h e =
+        let m = attribute-missed attributeKey text p a attribute h e in
+        let c : p .lines ≡ 0 + length ks = rw lines at (lines-counted (readValueBy table) ks text (from at) (omega (arith, few))) h in
+        let n : a .place .lines ≡ (p .lines + 1) % 2 ^ 32 = ap (λ (x : Place). x .lines) (m .1) in
+        let is-last : a .place .lines ≡ length ks + 1 = omega (arith, n, c, few) in
+        (attribute-at-fault (drop at text) vs (drop (p .at) text) (operands-by false h) (m .0) ∙ ap faultAt (sym is-last), omega (arith, is-last))
+
+    -- one of them is at fault
+    pub lines-fault : a .place .fault ≡ true → (mapped f (stepBy (drop at text)) ≡ faultAt (a .place .lines)) × (a .place .lines ≤ length ks + 1)
+    lines-fault h = fault-by (p .fault) refl h
+
+    -- none is
+    pub lines-done : a .place .fault ≡ false
+        → (mapped f (stepBy (drop at text)) ≡ read (f (g vs (take (a .size) (a .bytes)))) (drop (a .place .at) text)) × (a .size ≤ 24) × (length (a .bytes) ≡ 24)
+    lines-done h =
+        let t = attribute-read attributeKey text p a attribute h in
+        (step-whole (drop at text) vs _ _ _ (operands-by false (t .before)) (t .is), t .size, t .bytes)
+
+-- ---- a plan's step
+
 module _ {A : Type 0} (f : Step → A) (table text : List ℕ) (at : ℕ) (vs : List ℕ) (p : Place) (a : Attribute) (is : table ≡ readingTable)
     (lines : linesBy table stepKinds text (from at) ≡ record { values = vs; place = p }) (read-by : a ≡ attributeBy table attributeKey text p) where
-  attribute : a ≡ attributeBy readingTable attributeKey text p
-  attribute = read-by ∙ ap (λ (t : List ℕ). attributeBy t attributeKey text p) is
-
-  operands : readLines stepKinds (drop at text) ≡ cond (p .fault) (faultAt (p .lines)) (read vs (drop (p .at) text))
-  unfolding stepKinds
-  operands =
-      lines-read stepKinds text at (omega arith)
-      ∙ ap (λ (v : Values). seen v text) (ap (λ (t : List ℕ). linesBy t stepKinds text (from at)) (sym is) ∙ lines)
-
-  operands-by : (t : Bool) → p .fault ≡ t → readLines stepKinds (drop at text) ≡ cond t (faultAt (p .lines)) (read vs (drop (p .at) text))
-  operands-by t g = operands ∙ ap (λ (x : Bool). cond x (faultAt (p .lines)) (read vs (drop (p .at) text))) g
-
-  fault-by : (t : Bool) → p .fault ≡ t → a .place .fault ≡ true → (mapped f (readStep (drop at text)) ≡ faultAt (a .place .lines)) × (a .place .lines ≤ 5)
-  unfolding stepKinds
-  fault-by true g h =
-      let e : a .place .lines ≡ p .lines = ap (λ (x : Place). x .lines) (attribute-skipped attributeKey text p a attribute g) in
-      let m : p .lines ≤ 0 + 4 = rw lines at (lines-most text (readValueBy table) stepKinds (from at)) in
-      (operands-at-fault f (drop at text) (p .lines) (operands-by true g) ∙ ap faultAt (sym e), omega (arith, e, m))
-  fault-by false g h =
-      let m = attribute-missed attributeKey text p a attribute g h in
-      let c : p .lines ≡ 0 + 4 = rw lines at (lines-counted (readValueBy table) stepKinds text (from at) (omega arith)) g in
-      let e : a .place .lines ≡ 5 = ap (λ (x : Place). x .lines) (m .1) ∙ ap (λ (n : ℕ). (n + 1) % 2 ^ 32) c in
-      (attribute-at-fault f (drop at text) vs (drop (p .at) text) (operands-by false g) (m .0) ∙ ap faultAt (sym e), omega (arith, e))
-
-  -- one of them is at fault
+  -- one of its five lines is at fault
   pub step-fault : a .place .fault ≡ true → (mapped f (readStep (drop at text)) ≡ faultAt (a .place .lines)) × (a .place .lines ≤ 5)
-  step-fault h = fault-by (p .fault) refl h
+  unfolding readStep stepKinds
+  step-fault h = lines-fault f stepOf stepKinds table text at vs p a (omega arith) is lines read-by h
 
   -- none is
   pub step-done : a .place .fault ≡ false
       → (mapped f (readStep (drop at text)) ≡ read (f (stepOf vs (take (a .size) (a .bytes)))) (drop (a .place .at) text)) × (a .size ≤ 24) × (length (a .bytes) ≡ 24)
-  step-done h =
-      let t = attribute-read attributeKey text p a attribute h in
-      (step-whole f (drop at text) vs _ _ _ (operands-by false (t .before)) (t .is), t .size, t .bytes)
+  unfolding readStep stepKinds
+  step-done h = lines-done f stepOf stepKinds table text at vs p a (omega arith) is lines read-by h
 
--- ---- steps one after the other
+-- ---- a slot plan's step
 
--- one result in front
-abbrev after : Result → Ran → Ran
-after r x = record { codes = r .code ∷ x .codes; values = r .value ∷ x .values; causes = r .cause ∷ x .causes; last = x .last }
+-- the step of the first five lines' values and the attribute's bytes
+abbrev slotStepOf : List ℕ → List ℕ → SlotStep
+slotStepOf vs bs = record { slot = getD vs 0 0; step = record { number = getD vs 1 0; a = getD vs 2 0; b = getD vs 3 0; c = getD vs 4 0; attribute = bs } }
 
--- codes, values and causes in front of those of the steps to come
-abbrev pub grown : List ℕ → List ℕ → List ℕ → Read Ran → Read Ran
-grown cs vs ws (read x t) = read (record { codes = cs ++ x .codes; values = vs ++ x .values; causes = ws ++ x .causes; last = x .last }) t
-grown cs vs ws (faultAt line) = faultAt (5 * length cs + line)
+-- it is read from the slot's line and the step's four at once
+slot-step-is : (t : List ℕ) → readSlotStep t ≡ stepBy (λ (s : SlotStep). s) slotStepOf (slotKind ∷ stepKinds) t
+unfolding readSlotStep readStep readLines stepKinds
+slot-step-is t = by-slot (readLine slotKind t)
+  where
+    by-attribute : (v : ℕ) (vs : List ℕ) (r : Read (List ℕ))
+        → below 1 (mapped (λ x. record { slot = v; step = x }) (below 4 (mapped (stepOf vs) r))) ≡ below 5 (mapped (slotStepOf (v ∷ vs)) r)
+    by-attribute v vs (read bs end) = refl
+    by-attribute v vs (faultAt line) = let e : 1 + (4 + line) ≡ 5 + line = omega arith in ap faultAt e
 
-one-run : (c : Credentials) (s : Step) (r : Read (List Step))
-    → mapped (ranOf c) (below 5 (mapped (λ ss. s ∷ ss) r)) ≡ below 5 (mapped (after (result c s)) (mapped (ranOf (result c s .after)) r))
-unfolding run lastOf codesOf valuesOf causesOf
-one-run c s (read ss t) = refl
-one-run c s (faultAt line) = refl
+    by-operands : (v : ℕ) (r : Read (List ℕ))
+        → below 1 (mapped (λ x. record { slot = v; step = x }) (next 4 r (λ vs rest. mapped (stepOf vs) (readAttribute attributeKey rest))))
+        ≡ next 5 (below 1 (mapped (λ vs. v ∷ vs) r)) (λ vs rest. mapped (slotStepOf vs) (readAttribute attributeKey rest))
+    by-operands v (read vs rest) = by-attribute v vs (readAttribute attributeKey rest)
+    by-operands v (faultAt line) = refl
 
-grown-one : (cs vs ws : List ℕ) (r : Result) (x : Read Ran)
-    → grown cs vs ws (below 5 (mapped (after r) x)) ≡ grown (cs ++ (r .code ∷ [])) (vs ++ (r .value ∷ [])) (ws ++ (r .cause ∷ [])) x
-grown-one cs vs ws r (read x t) =
-    let p : cs ++ (r .code ∷ x .codes) ≡ (cs ++ (r .code ∷ [])) ++ x .codes = sym (append-assoc cs (r .code ∷ []) (x .codes)) in
-    let q : vs ++ (r .value ∷ x .values) ≡ (vs ++ (r .value ∷ [])) ++ x .values = sym (append-assoc vs (r .value ∷ []) (x .values)) in
-    let o : ws ++ (r .cause ∷ x .causes) ≡ (ws ++ (r .cause ∷ [])) ++ x .causes = sym (append-assoc ws (r .cause ∷ []) (x .causes)) in
-    λ i. read (record { codes = p i; values = q i; causes = o i; last = x .last }) t
-grown-one cs vs ws r (faultAt line) =
-    let e : 5 * length cs + (5 + line) ≡ 5 * length (cs ++ (r .code ∷ [])) + line = omega (arith, length-append cs (r .code ∷ [])) in
-    ap faultAt e
+    by-slot : (r : Read ℕ)
+        → next 1 r (λ slot rest. mapped (λ x. record { slot = slot; step = x }) (next 4 (readLines stepKinds rest) (λ vs u. mapped (stepOf vs) (readAttribute attributeKey u))))
+        ≡ next 5 (next 1 r (λ v rest. mapped (λ vs. v ∷ vs) (readLines stepKinds rest))) (λ vs rest. mapped (slotStepOf vs) (readAttribute attributeKey rest))
+    by-slot (read v rest) = by-operands v (readLines stepKinds rest)
+    by-slot (faultAt line) = refl
 
-module _ (i : ℕ) (text : List ℕ) (c : Credentials) where
-  -- the text is at its end
-  pub steps-end : (n : ℕ) → length text ≤ i → ranSteps n c (drop i text) ≡ read (record { codes = []; values = []; causes = []; last = c }) []
-  unfolding ranSteps readSteps run lastOf codesOf valuesOf causesOf
-  steps-end zero h = rw (drop-of-length-le text h)
-  steps-end (suc n) h = rw (drop-of-length-le text h)
+mapped-same : {A : Type 0} (r : Read A) → mapped (λ x. x) r ≡ r
+mapped-same (read v t) = refl
+mapped-same (faultAt line) = refl
 
-  -- there are as many steps as there can be
-  pub steps-full : (n : ℕ) → n ≡ 0 → i < length text → ranSteps n c (drop i text) ≡ faultAt 1
-  unfolding ranSteps readSteps
-  steps-full n e h = rw (e, drop-cons text i 0 h)
+module _ (table text : List ℕ) (at : ℕ) (vs : List ℕ) (p : Place) (a : Attribute) (is : table ≡ readingTable)
+    (lines : linesBy table (slotKind ∷ stepKinds) text (from at) ≡ record { values = vs; place = p }) (read-by : a ≡ attributeBy table attributeKey text p) where
+  same-step : mapped (λ (s : SlotStep). s) (stepBy (λ (s : SlotStep). s) slotStepOf (slotKind ∷ stepKinds) (drop at text)) ≡ readSlotStep (drop at text)
+  same-step = mapped-same _ ∙ sym (slot-step-is (drop at text))
 
-  pub steps-fault : (n m line : ℕ) → n ≡ m + 1 → i < length text → mapped (result c) (readStep (drop i text)) ≡ faultAt line
-      → ranSteps n c (drop i text) ≡ faultAt line
-  unfolding ranSteps readSteps stepKinds
-  steps-fault n m line e h g =
-      let d = drop-cons text i 0 h in
-      let f = rw d at (mapped-fault (result c) (readStep (drop i text)) line g) in
-      rw (e, add-one m, d, f)
+  -- one of its six lines is at fault
+  pub slot-step-fault : a .place .fault ≡ true → (readSlotStep (drop at text) ≡ faultAt (a .place .lines)) × (a .place .lines ≤ 6)
+  unfolding stepKinds
+  slot-step-fault h =
+      let t = lines-fault (λ (s : SlotStep). s) slotStepOf (slotKind ∷ stepKinds) table text at vs p a (omega arith) is lines read-by h in
+      (sym same-step ∙ t .0, t .1)
 
-  one-step : (n m : ℕ) (r : Result) (rest : List ℕ) → n ≡ m + 1 → i < length text → mapped (result c) (readStep (drop i text)) ≡ read r rest
-      → ranSteps n c (drop i text) ≡ below 5 (mapped (after r) (ranSteps m (r .after) rest))
-  unfolding ranSteps readSteps stepKinds
-  one-step n m r rest e h g =
-      let d = drop-cons text i 0 h in
-      let s = mapped-told r rest (result c) (readStep (getD text i 0 ∷ drop (suc i) text)) (rw d at g) in
-      rw (e, add-one m, d, s .1) (one-run c (s .0) (readSteps m rest) ∙ rw (s .2))
+  -- none is
+  pub slot-step-done : a .place .fault ≡ false
+      → (readSlotStep (drop at text) ≡ read (slotStepOf vs (take (a .size) (a .bytes))) (drop (a .place .at) text)) × (a .size ≤ 24) × (length (a .bytes) ≡ 24)
+  unfolding stepKinds
+  slot-step-done h =
+      let t = lines-done (λ (s : SlotStep). s) slotStepOf (slotKind ∷ stepKinds) table text at vs p a (omega arith) is lines read-by h in
+      (sym same-step ∙ t .0, t .1, t .2)
 
-  -- a step more
-  pub steps-step : (n m : ℕ) (cs vs ws : List ℕ) (r : Result) (rest : List ℕ) → n ≡ m + 1 → i < length text
-      → mapped (result c) (readStep (drop i text)) ≡ read r rest
-      → grown cs vs ws (ranSteps n c (drop i text)) ≡ grown (cs ++ (r .code ∷ [])) (vs ++ (r .value ∷ [])) (ws ++ (r .cause ∷ [])) (ranSteps m (r .after) rest)
-  steps-step n m cs vs ws r rest e h g = ap (grown cs vs ws) (one-step n m r rest e h g) ∙ grown-one cs vs ws r (ranSteps m (r .after) rest)
+-- as the code reads it: the slot's line, the operands', the attribute's, each at the place past the last
+module _ (table text : List ℕ) (at : ℕ) (n : Number) (number x y z : ℕ) (p : Place) (a : Attribute) (is : table ≡ readingTable)
+    (slot-by : n ≡ numberAt (slotKind .key) (decimal 99) text (from at))
+    (lines : linesBy table stepKinds text (n .place) ≡ record { values = number ∷ x ∷ y ∷ z ∷ []; place = p }) (read-by : a ≡ attributeBy table attributeKey text p) where
+  slot-lines : linesBy table (slotKind ∷ stepKinds) text (from at) ≡ record { values = n .value ∷ number ∷ x ∷ y ∷ z ∷ []; place = p }
+  unfolding linesAt
+  slot-lines = rw (← slot-by, lines)
 
--- nothing before, and nothing to come
-pub grown-none : (x : Read Ran) → x ≡ grown [] [] [] x
-grown-none (read x t) = refl
-grown-none (faultAt line) = let e : line ≡ 5 * 0 + line = omega arith in ap faultAt e
+  abbrev values : List ℕ
+  values = n .value ∷ number ∷ x ∷ y ∷ z ∷ []
 
-pub grown-all : (cs vs ws : List ℕ) (c : Credentials)
-    → grown cs vs ws (read (record { codes = []; values = []; causes = []; last = c }) []) ≡ read (record { codes = cs; values = vs; causes = ws; last = c }) []
-grown-all cs vs ws c = λ i. read (record { codes = append-nil cs i; values = append-nil vs i; causes = append-nil ws i; last = c }) []
+  seen-by : (t : Bool) → a .place .fault ≡ t
+      → (cond t (faultAt (a .place .lines)) (read (slotStep (n .value) number x y z (take (a .size) (a .bytes))) (drop (a .place .at) text)) ≡ readSlotStep (drop at text))
+      × (t ≡ true → a .place .lines ≤ 6) × (t ≡ false → (a .size ≤ 24) × (length (a .bytes) ≡ 24))
+  seen-by true h =
+      let f = slot-step-fault table text at values p a is slot-lines read-by h in
+      (sym (f .0), λ e. f .1, λ e. absurd (true≢false e))
+  seen-by false h =
+      let d = slot-step-done table text at values p a is slot-lines read-by h in
+      (sym (d .0), λ e. absurd (true≢false (sym e)), λ e. (d .1, d .2))
 
--- a fault after so many steps
-pub grown-fault : (codes vs ws : List ℕ) (n line : ℕ) → n ≤ length codes → grown (take n codes) vs ws (faultAt line) ≡ faultAt (5 * n + line)
-grown-fault codes vs ws n line h =
-    let e : 5 * length (take n codes) + line ≡ 5 * n + line = omega (arith, length-take-le n codes h) in
-    ap faultAt e
+  pub slot-step-seen :
+      (cond (a .place .fault) (faultAt (a .place .lines)) (read (slotStep (n .value) number x y z (take (a .size) (a .bytes))) (drop (a .place .at) text))
+      ≡ readSlotStep (drop at text))
+      × (a .place .fault ≡ true → a .place .lines ≤ 6) × (a .place .fault ≡ false → (a .size ≤ 24) × (length (a .bytes) ≡ 24))
+  slot-step-seen = seen-by (a .place .fault) refl

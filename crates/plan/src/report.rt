@@ -27,7 +27,12 @@ const VALUE_DIGITS: u8 = 16;
 const FIXED_LENGTH: usize = 36;
 
 // How long the lines of the first count results are.
-fn results_length(codes: &[u8; 256], values: &[u64; 256], causes: &[u8; 256], count: usize) -> usize
+pub(crate) fn results_length(
+    codes: &[u8; 256],
+    values: &[u64; 256],
+    causes: &[u8; 256],
+    count: usize,
+) -> usize
     requires { ⌜ (length (now codes) ≡ 256) × (length (now values) ≡ 256) × (length (now causes) ≡ 256) × (count ≤ 256) ⌝ }
     ensures { λ r. ⌜ (r ≡ length (firstAnswers count (now (codes .entry)) (now (values .entry)) (now (causes .entry)))) × (r ≤ 20480) ⌝ }
 {
@@ -43,7 +48,7 @@ fn results_length(codes: &[u8; 256], values: &[u64; 256], causes: &[u8; 256], co
 }
 
 // The lines of the first count results at the front of buf: the position past them.
-fn write_results(
+pub(crate) fn write_results(
     buf: &mut [u8],
     codes: &[u8; 256],
     values: &[u64; 256],

@@ -121,7 +121,7 @@ fn run_from(
 }
 
 // A plan that is refused.
-fn refused(code: u8, line: u32) -> Outcome
+pub(crate) fn refused(code: u8, line: u32) -> Outcome
     ensures { λ r. ⌜ r ≡ record { code = code; line = line; length = 0 } ⌝ }
 {
     Outcome {

@@ -18,12 +18,12 @@ use line_reader::read_hex16;
 const LARGEST_CALL: u32 = 99;
 
 // A step's first four lines, and the place past them.
-struct Operands {
-    number: u64,
-    a: u64,
-    b: u64,
-    c: u64,
-    place: Place,
+pub(crate) struct Operands {
+    pub number: u64,
+    pub a: u64,
+    pub b: u64,
+    pub c: u64,
+    pub place: Place,
 }
 
 // What a step gives: its code, its cause, its value and the credentials after it. The two bytes stand together, so that no padding comes between the value
@@ -42,7 +42,7 @@ pub(crate) enum StepRun {
 }
 
 // The lines of a call's number and its operands, by the table, at a place.
-fn read_operands(text: &[u8], place: Place, table: &[u8; 256]) -> Operands
+pub(crate) fn read_operands(text: &[u8], place: Place, table: &[u8; 256]) -> Operands
     ensures { λ r. ⌜ linesBy (now (table .entry)) stepKinds (now (text .entry)) place ≡ record { values = r .number ∷ r .a ∷ r .b ∷ r .c ∷ []; place = r .place } ⌝ }
 {
     let number = read_decimal(text, place, b"call=", LARGEST_CALL);

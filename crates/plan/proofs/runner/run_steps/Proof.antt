@@ -8,18 +8,19 @@ use lib.ListN.{length, take, drop, length-set}
 use lib.Seq.{take-suc-set}
 use Rattle.plan.specs.declared.step.StepRun.{StepRun}
 use Rattle.plan.specs.Inside.{ranSteps, seenStep}
-use Rattle.plan.proofs.StepLaws.{grown, grown-none, grown-all, grown-fault, steps-end, steps-full, steps-fault, steps-step}
+use Rattle.plan.proofs.RunLaws.{grown, grown-none, grown-all, grown-fault}
+use Rattle.plan.proofs.Steps.{steps-end, steps-full, steps-fault, steps-step}
 use Rattle.plan.proofs.runner.run_steps.Statement.{statement}
 use Rattle.plan.proofs.runner.run_steps.Tie as tie
 
 abbrev Inv-loop : tie.InvT-loop
-Inv-loop text first codes₀ values₀ causes₀ table held₀ at₀ count₀ codes values causes held at count = (ranSteps 256 held₀ (drop first text) ≡ grown (take count codes) (take count values) (take count causes) (ranSteps (256 - count) held (drop at text))) × (count ≤ 256) × (length codes ≡ 256) × (length values ≡ 256) × (length causes ≡ 256)
+Inv-loop text first codes₀ values₀ causes₀ table held₀ at₀ count₀ codes values causes held at count = (ranSteps 256 held₀ (drop first text) ≡ grown 5 (take count codes) (take count values) (take count causes) (ranSteps (256 - count) held (drop at text))) × (count ≤ 256) × (length codes ≡ 256) × (length values ≡ 256) × (length causes ≡ 256)
 
 abbrev μ-loop : tie.MeasureT-loop
 μ-loop text first codes₀ values₀ causes₀ table held₀ at₀ count₀ codes values causes held at count = 256 - count
 
 loop-holds : tie.Need-loop-holds Inv-loop μ-loop
-loop-holds c = (grown-none _, search needs, c .before .pre .0, c .before .pre .1, c .before .pre .2)
+loop-holds c = (grown-none 5 _, search needs, c .before .pre .0, c .before .pre .1, c .before .pre .2)
 
 cast-t16 : tie.Need-cast-t16 Inv-loop μ-loop
 cast-t16 c = search needs
@@ -35,7 +36,7 @@ returns c =
     let l = c .before .before .loop in
     let t = c .before .before .before .before .args .text .now in
     let h = c .before .loop-test .taken in (
-      rw (l .inv .0, steps-full (l .at) t (l .held) (256 - l .count) (omega (arith, c .if1 .taken)) h, grown-fault (l .codes) (take (l .count) (l .values)) (take (l .count) (l .causes)) (l .count) 1 (omega arith)),
+      rw (l .inv .0, steps-full (l .at) t (l .held) (256 - l .count) (omega (arith, c .if1 .taken)) h, grown-fault 5 (l .codes) (take (l .count) (l .values)) (take (l .count) (l .causes)) (l .count) 1 (omega arith)),
       search needs,
       l .inv .2,
       l .inv .3,
@@ -64,7 +65,7 @@ returns-2 c =
     let h = c .before .before .before .before .before .loop-test .taken in
     let line = rw (c .before .line .given .1) at (c .before .before .before .run-step .ensures .1) in
     let one = sym (c .before .before .before .run-step .ensures .0) ∙ ap (λ (x : StepRun). seenStep x t) (c .before .line .given .1) in (
-      rw (l .inv .0, steps-fault (l .at) t (l .held) (256 - l .count) (256 - (l .count + 1)) _ (omega arith) h one, grown-fault (l .codes) (take (l .count) (l .values)) (take (l .count) (l .causes)) (l .count) _ (omega arith)),
+      rw (l .inv .0, steps-fault (l .at) t (l .held) (256 - l .count) (256 - (l .count + 1)) _ (omega arith) h one, grown-fault 5 (l .codes) (take (l .count) (l .values)) (take (l .count) (l .causes)) (l .count) _ (omega arith)),
       omega (arith, line),
       l .inv .2,
       l .inv .3,
@@ -111,7 +112,7 @@ returns-3 : tie.Need-returns-3 Inv-loop μ-loop
 returns-3 c =
     let l = c .before .loop in
     let t = c .before .before .before .args .text .now in
-    (rw (l .inv .0, steps-end (l .at) t (l .held) (256 - l .count) (c .loop-test .left)) (sym (grown-all _ _ _ _)), l .inv .1, l .inv .2, l .inv .3, l .inv .4)
+    (rw (l .inv .0, steps-end (l .at) t (l .held) (256 - l .count) (c .loop-test .left)) (sym (grown-all 5 _ _ _ _)), l .inv .1, l .inv .2, l .inv .3, l .inv .4)
 
 pub run-steps-spec : {M : Type 1} → statement M
 run-steps-spec =
