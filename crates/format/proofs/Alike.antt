@@ -104,11 +104,11 @@ begins (x ∷ xs) (y ∷ u) t more e h =
     (i .0, rw p (ap (λ (ys : List ℕ). x ∷ ys) (i .1)), i .2)
 
 -- a reader of a line, what is written for it and what can be written, and the most bytes of that
-record Line {A : Type 0} (reader : List ℕ → Read A) (text : A → List ℕ) (Fit : A → Type 0) (most : ℕ) : Type 0 where
-  written : (v : A) (t rest : List ℕ) → reader t ≡ read v rest → (t ≡ text v ++ rest) × Fit v
-  again : (v : A) (rest : List ℕ) → Fit v → reader (text v ++ rest) ≡ read v rest
-  size : (v : A) → Fit v → length (text v) ≤ most
-  in-line : (t : List ℕ) → reader t ≡ inLine (reader t)
+pub record Line {A : Type 0} (reader : List ℕ → Read A) (text : A → List ℕ) (Fit : A → Type 0) (most : ℕ) : Type 0 where
+  pub written : (v : A) (t rest : List ℕ) → reader t ≡ read v rest → (t ≡ text v ++ rest) × Fit v
+  pub again : (v : A) (rest : List ℕ) → Fit v → reader (text v ++ rest) ≡ read v rest
+  pub size : (v : A) → Fit v → length (text v) ≤ most
+  pub in-line : (t : List ℕ) → reader t ≡ inLine (reader t)
 
 module _ {A : Type 0} {reader : List ℕ → Read A} {text : A → List ℕ} {Fit : A → Type 0} {most : ℕ} (l : Line reader text Fit most) where
   -- a line that is read is read with more behind it
@@ -134,11 +134,11 @@ module _ {A : Type 0} {reader : List ℕ → Read A} {text : A → List ℕ} {Fi
       cc
 
   -- a text that is longer than the line by so many bytes
-  line-alike : (u more : List ℕ) (left : ℕ) → most + left ≤ length u → Alike more left (reader u) (reader (u ++ more))
+  pub line-alike : (u more : List ℕ) (left : ℕ) → most + left ≤ length u → Alike more left (reader u) (reader (u ++ more))
   line-alike u more left h = by-cases u more left (reader u) (reader (u ++ more)) h refl refl
 
 -- a key, a value and a newline
-keyed : (key : List ℕ) (form : Form) → Line (readKeyed key form) (λ v. keyedText key (valueText form v)) (Fits form) (mostKeyed key form)
+pub keyed : (key : List ℕ) (form : Form) → Line (readKeyed key form) (λ v. keyedText key (valueText form v)) (Fits form) (mostKeyed key form)
 keyed key form =
     record {
       written = keyed-written key form;

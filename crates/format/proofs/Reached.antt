@@ -75,7 +75,7 @@ text-verdict = ap judged text-read
 -- ---- its report
 
 -- the sheet of the start, by its round trip: the definition of decimal digits is not one to compute a number of ten digits with
-sheet-written : sheetText start ≡ sheet
+pub sheet-written : sheetText start ≡ sheet
 sheet-written = sym (sheet-round-trip .read-written sheet start sheet-read .0)
 
 -- 256 times 39 bytes

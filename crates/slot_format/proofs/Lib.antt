@@ -1,0 +1,4 @@
+pub mod Longest
+pub mod Reached
+pub mod Reports
+pub mod RoundTrip
