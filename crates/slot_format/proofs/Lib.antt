@@ -1,3 +1,4 @@
+pub mod Computed
 pub mod Longest
 pub mod Reached
 pub mod Reports

@@ -2,3 +2,4 @@ pub mod SlotPlan
 pub mod SlotReport
 pub mod RoundTrip
 pub mod Longest
+pub mod Texts
