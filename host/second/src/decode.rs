@@ -8,10 +8,10 @@ use crate::refusal::Refusal;
 /// The operand that leaves an ID as it is.
 const NO_ID: u64 = u32::MAX as u64;
 
-/// One step of a plan.
+/// One step of a plan, or of a slot plan once its slot is told.
 #[derive(Clone, Debug, PartialEq, Eq)]
 pub struct Step {
-    /// The call's number; 1 to 22 are calls.
+    /// The call's number; 1 to 22 are calls, and in a slot 30 is fork and 31 exit.
     pub call: u8,
     /// First operand; 0 where the call does not use it, as with the other two.
     pub a: u64,

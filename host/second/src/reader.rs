@@ -1,5 +1,5 @@
-//! Reads the text of a plan: a sheet of credentials and up to 256 steps, each line a key, `=` and a value. A sheet can
-//! also stand alone.
+//! Reads the text of a plan: a sheet of credentials and up to 256 steps, each line a key, `=` and a value. In a slot
+//! plan each step begins with its slot. A sheet can also stand alone.
 
 use crate::credentials::Credentials;
 use crate::decode::Step;
@@ -11,11 +11,18 @@ const MAX_ATTRIBUTE_DIGITS: usize = 48;
 /// The longest value of any line; a longer line is wrong wherever it ends.
 const MAX_VALUE: usize = MAX_ATTRIBUTE_DIGITS;
 
-/// A plan as its text gives it; the credentials need not be valid.
+/// A plan as its text gives it, in steps of either form; the credentials need not be valid.
 #[derive(Debug, PartialEq, Eq)]
-pub(crate) struct Plan {
+pub(crate) struct Plan<S> {
     pub(crate) start: Credentials,
-    pub(crate) steps: Vec<Step>,
+    pub(crate) steps: Vec<S>,
+}
+
+/// One step of a slot plan; there need not be such a slot.
+#[derive(Debug, PartialEq, Eq)]
+pub(crate) struct SlotStep {
+    pub(crate) slot: u8,
+    pub(crate) step: Step,
 }
 
 /// The text is no plan, or no sheet; the line is one more than the complete correct lines before the fault.
@@ -25,7 +32,20 @@ pub(crate) struct Malformed {
 }
 
 /// Reads a whole plan; nothing may follow its last step.
-pub(crate) fn read_plan(text: &[u8]) -> Result<Plan, Malformed> {
+pub(crate) fn read_plan(text: &[u8]) -> Result<Plan<Step>, Malformed> {
+    read_steps(text, Reader::step)
+}
+
+/// Reads a whole slot plan; nothing may follow its last step.
+pub(crate) fn read_slot_plan(text: &[u8]) -> Result<Plan<SlotStep>, Malformed> {
+    read_steps(text, Reader::slot_step)
+}
+
+/// Reads a sheet, and steps to the end of the text, each by `read_step`.
+fn read_steps<'t, S>(
+    text: &'t [u8],
+    read_step: impl Fn(&mut Reader<'t>) -> Result<S, Malformed>,
+) -> Result<Plan<S>, Malformed> {
     let mut reader = Reader { rest: text, line: 1 };
     let start = reader.sheet()?;
     let mut steps = Vec::new();
@@ -33,7 +53,7 @@ pub(crate) fn read_plan(text: &[u8]) -> Result<Plan, Malformed> {
         if steps.len() == MAX_STEPS {
             return Err(reader.fault());
         }
-        steps.push(reader.step()?);
+        steps.push(read_step(&mut reader)?);
     }
     Ok(Plan { start, steps })
 }
@@ -83,6 +103,10 @@ impl Reader<'_> {
             c: self.line("c=", word)?,
             attr: self.line("attr=", bytes)?,
         })
+    }
+
+    fn slot_step(&mut self) -> Result<SlotStep, Malformed> {
+        Ok(SlotStep { slot: self.line("slot=", call)?, step: self.step()? })
     }
 
     /// Reads one line: its key with the `=`, a value that `read` takes, and a newline.
@@ -146,6 +170,7 @@ pub(crate) fn id(value: &[u8]) -> Option<u32> {
     decimal(value)
 }
 
+/// A call's number, or a slot's, which is written like it.
 fn call(value: &[u8]) -> Option<u8> {
     let number = decimal(value).filter(|&number| number <= MAX_CALL)?;
     u8::try_from(number).ok()

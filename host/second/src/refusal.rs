@@ -1,18 +1,23 @@
-//! Why a call, a reader or a writer is refused.
+//! Why a step, a reader or a writer is refused.
 
 use crate::cause::Cause;
 
-/// The refusals. Those of a call stand in the order in which they are looked for; the last five are not for calls.
+/// The refusals. Those of a step stand in the order in which they are looked for, but that a slot which is out of its
+/// range is told first of all; the last five are not for steps.
 #[derive(Clone, Copy, Debug, PartialEq, Eq)]
 pub(crate) enum Refusal {
+    /// The slot is not in use.
+    SlotNotInUse,
     /// The credentials given are not valid.
     InvalidCredentials,
-    /// There is no such call, or an operand, a set or the attribute is out of its range.
+    /// There is no such call, or a slot, an operand, a set or the attribute is out of its range.
     BadOperand,
     /// The file's capability attribute counts but cannot be read.
     UnreadableAttribute,
     /// The rules of the call do not allow it (EPERM), and this is the cause.
     NotPermitted(Cause),
+    /// A fork finds no slot that is free.
+    NoFreeSlot,
     /// The text of a sheet is malformed.
     Malformed {
         /// One more than the complete correct lines before the fault.
@@ -38,10 +43,12 @@ impl Refusal {
     /// The number that an answer carries.
     pub(crate) fn code(self) -> u32 {
         match self {
+            Refusal::SlotNotInUse => 3,
             Refusal::InvalidCredentials => 72,
             Refusal::BadOperand => 22,
             Refusal::UnreadableAttribute => 60,
             Refusal::NotPermitted(_) => 1,
+            Refusal::NoFreeSlot => 11,
             Refusal::Malformed { .. }
             | Refusal::MalformedAt { .. }
             | Refusal::MalformedStatus { .. }

@@ -1,12 +1,12 @@
-//! Writes a report: three lines for each step, then the sheet.
+//! Writes a report: three lines for each step, then the sheet, or one for each slot in use.
 
 use std::fmt::{self, Write};
 
-use crate::calls::Answer;
 use crate::credentials::Credentials;
+use crate::threads::SlotAnswer;
 
 /// Adds a step's code, value and cause.
-pub(crate) fn write_answer(report: &mut String, answer: &Answer) -> fmt::Result {
+pub(crate) fn write_answer(report: &mut String, answer: &SlotAnswer) -> fmt::Result {
     writeln!(report, "code={}", answer.code)?;
     writeln!(report, "value={:016x}", answer.value)?;
     writeln!(report, "cause={}", answer.cause)

@@ -15,6 +15,8 @@ mod names;
 mod names_defined;
 mod refusals;
 mod sheet;
+mod slot_helpers;
+mod slots;
 mod status;
 mod status_defined;
 mod status_lines;
