@@ -111,3 +111,76 @@ fn check_fork_or_exit(thread: &Credentials, step: &Step) -> Result<(), Refusal> 
         Err(Refusal::BadOperand)
     }
 }
+
+#[cfg(test)]
+mod tests {
+    use super::*;
+
+    fn valid() -> Credentials {
+        Credentials {
+            ruid: 1000,
+            euid: 1000,
+            suid: 1000,
+            fsuid: 1000,
+            rgid: 1000,
+            egid: 1000,
+            sgid: 1000,
+            fsgid: 1000,
+            permitted: 0,
+            inheritable: 0,
+            effective: 0,
+            bounding: 0,
+            ambient: 0,
+            securebits: 0,
+            nnp: false,
+        }
+    }
+
+    fn invalid() -> Credentials {
+        Credentials { effective: 1, ..valid() }
+    }
+
+    fn step(call: u8, a: u64) -> Step {
+        Step { call, a, b: 0, c: 0, attr: Vec::new() }
+    }
+
+    #[track_caller]
+    fn assert_refused(threads: &Threads, slot: u8, step: &Step, code: u32) {
+        let mut after = threads.clone();
+        assert_eq!(after.step(slot, step), SlotAnswer { code, value: 0, cause: 0 });
+        assert_eq!(&after, threads);
+    }
+
+    // No step leads from valid credentials to others, so only here can two slots differ in that.
+
+    #[test]
+    fn refusal_72_is_asked_of_the_named_slot_alone() {
+        let mut threads = Threads::new(invalid());
+        threads.slots[1] = Some(valid());
+        for call in [FORK, EXIT, 14, 99] {
+            assert_refused(&threads, 0, &step(call, 0), 72);
+            assert_refused(&threads, 0, &step(call, 1), 72);
+            assert_refused(&threads, 2, &step(call, 0), 3);
+            assert_refused(&threads, 96, &step(call, 0), 22);
+        }
+        assert_eq!(threads.step(1, &step(FORK, 0)), SlotAnswer { code: 0, value: 2, cause: 0 });
+        assert_eq!(threads.step(1, &step(14, 0)), SlotAnswer { code: 0, value: 0, cause: 0 });
+        assert_eq!(threads.step(1, &step(EXIT, 0)), SlotAnswer { code: 0, value: 0, cause: 0 });
+        assert_eq!(threads.held(0), Some(&invalid()));
+        assert_eq!(threads.held(1), None);
+        assert_eq!(threads.held(2), Some(&valid()));
+    }
+
+    #[test]
+    fn refusal_72_comes_before_22_and_11_where_no_slot_is_free() {
+        let mut threads = Threads { slots: [const { None }; SLOTS] };
+        threads.slots.fill(Some(valid()));
+        threads.slots[95] = Some(invalid());
+        assert_refused(&threads, 95, &step(FORK, 0), 72);
+        assert_refused(&threads, 95, &step(FORK, 1), 72);
+        assert_refused(&threads, 95, &step(EXIT, 0), 72);
+        assert_refused(&threads, 94, &step(FORK, 0), 11);
+        assert_refused(&threads, 94, &step(FORK, 1), 22);
+        assert_refused(&threads, 96, &step(FORK, 0), 22);
+    }
+}

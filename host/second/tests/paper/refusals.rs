@@ -190,7 +190,7 @@ fn code_60_attributes() {
 }
 
 /// One fault in each way that credentials can have one.
-fn not_valid() -> Vec<Credentials> {
+pub fn not_valid() -> Vec<Credentials> {
     let mut all = vec![
         Credentials { effective: NET_RAW, ..user() },
         Credentials { inheritable: NET_RAW, ambient: NET_RAW, ..user() },

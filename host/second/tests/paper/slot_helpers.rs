@@ -72,6 +72,36 @@ pub fn assert_not_permitted_in(threads: &Threads, slot: u8, step: &Step, cause: 
     assert_answers_and_leaves(threads, slot, step, SlotAnswer { code: 1, value: 0, cause });
 }
 
+/// The text of a step, its slot's line in front.
+pub fn in_slot(slot: u8, step: &str) -> String {
+    format!("slot={slot}\n{step}")
+}
+
+/// The text of slot steps without an attribute: slot, call and operands.
+pub fn slot_steps(slot_steps: &[(u8, u8, [u64; 3])]) -> String {
+    slot_steps.iter().map(|&(slot, call, operands)| in_slot(slot, &steps(&[(call, operands)]))).collect()
+}
+
+/// The text of a fork in this slot.
+pub fn fork_text(slot: u8) -> String {
+    slot_steps(&[(slot, 30, [0; 3])])
+}
+
+/// The text of an exit in this slot.
+pub fn exit_text(slot: u8) -> String {
+    slot_steps(&[(slot, 31, [0; 3])])
+}
+
+/// A step's three lines in a report.
+pub fn result(code: u32, value: u64, cause: u32) -> String {
+    format!("code={code}\nvalue={value:016x}\ncause={cause}\n")
+}
+
+/// A report's lines for the slots from `first` to `last`, each with this sheet.
+pub fn sheets(first: u8, last: u8, sheet: &str) -> String {
+    (first..=last).map(|slot| in_slot(slot, sheet)).collect()
+}
+
 /// The outcome of a slot plan, and its report; a refused slot plan must leave the buffer alone.
 pub fn run_slots(plan: &[u8]) -> (Outcome, String) {
     let mut buffer = vec![0xa5; 40_000];
@@ -79,4 +109,17 @@ pub fn run_slots(plan: &[u8]) -> (Outcome, String) {
     let length = if let Outcome::Report { length } = outcome { length } else { 0 };
     assert!(buffer[length..].iter().all(|&byte| byte == 0xa5));
     (outcome, String::from_utf8(buffer[..length].to_vec()).unwrap())
+}
+
+/// The slot plan has just this report.
+pub fn assert_reports(plan: &str, report: &str) {
+    let outcome = Outcome::Report { length: report.len() };
+    assert_eq!(run_slots(plan.as_bytes()), (outcome, report.to_string()), "{plan}");
+}
+
+/// The slot plan is malformed at this line.
+pub fn assert_malformed_slots(plan: impl AsRef<[u8]>, line: u32) {
+    let plan = plan.as_ref();
+    let outcome = run_slots(plan).0;
+    assert_eq!(outcome, Outcome::Malformed { line }, "{:?}", String::from_utf8_lossy(plan));
 }
