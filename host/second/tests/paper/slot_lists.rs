@@ -31,8 +31,8 @@ impl Life {
         assert_eq!(after.bounding & !start.bounding, 0);
         assert_eq!(after.permitted & !(start.permitted | start.inheritable | start.bounding), 0);
         for flag in [NOROOT, NO_SETUID_FIXUP, KEEP_CAPS, NO_CAP_AMBIENT_RAISE] {
-            if start.securebits & 2 * flag != 0 {
-                assert_ne!(after.securebits & 2 * flag, 0);
+            if start.securebits & (2 * flag) != 0 {
+                assert_ne!(after.securebits & (2 * flag), 0);
                 let cleared = flag == KEEP_CAPS && launched;
                 assert_eq!(after.securebits & flag, if cleared { 0 } else { start.securebits & flag });
             }
