@@ -151,7 +151,7 @@ mod tests {
         assert_eq!(&after, threads);
     }
 
-    // No step leads from valid credentials to others, so only here can two slots differ in that.
+    // No step makes valid credentials invalid, and none copies invalid ones: only here can two slots differ in that.
 
     #[test]
     fn refusal_72_is_asked_of_the_named_slot_alone() {
@@ -173,7 +173,7 @@ mod tests {
 
     #[test]
     fn refusal_72_comes_before_22_and_11_where_no_slot_is_free() {
-        let mut threads = Threads { slots: [const { None }; SLOTS] };
+        let mut threads = Threads::new(valid());
         threads.slots.fill(Some(valid()));
         threads.slots[95] = Some(invalid());
         assert_refused(&threads, 95, &step(FORK, 0), 72);
