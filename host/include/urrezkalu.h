@@ -1,4 +1,5 @@
-/* The proved library, for C11 and C++11: plans, credential sheets, file attributes, capability sets in names, and status files beside a prediction.
+/* The proved library, for C11 and C++11: plans, slot plans, credential sheets, file attributes, capability sets in names, and status files beside a
+ * prediction.
  *
  * A plan is a text: the credentials that a thread starts with, then up to 256 calls. urrezkalu_run_plan writes the report: what each call
  * answers and what the thread holds after the last, or it says why the plan is refused. Every text gets an answer. urrezkalu_read_result takes a
@@ -8,6 +9,23 @@
  *     uint64_t number = urrezkalu_run_plan(plan, plan_length, report, sizeof report);
  *     if (urrezkalu_code(number) == URREZKALU_DONE) {
  *         fwrite(report, 1, urrezkalu_length(number), stdout);
+ *     }
+ *
+ * A slot plan is of a whole family: there are 96 slots, each free or with a thread in it, and each step names the slot whose thread makes the call. A
+ * thread can fork and exit besides. urrezkalu_run_slot_plan writes the report: what each step answers, and then, of each slot that is in use after the
+ * last, its number and what its thread holds. urrezkalu_read_slot takes this end apart.
+ *
+ *     uint8_t report[URREZKALU_LONGEST_SLOT_REPORT];
+ *     size_t length = urrezkalu_length(urrezkalu_run_slot_plan(plan, plan_length, report, sizeof report));
+ *     uint64_t values[URREZKALU_SLOTS][URREZKALU_SHEET_VALUES];
+ *     struct urrezkalu_result result;
+ *     struct urrezkalu_slot slot;
+ *     size_t at = 0, size;
+ *     for (; (size = urrezkalu_read_result(report + at, length - at, &result)) != 0; at += size) {
+ *         printf("code %u\n", (unsigned)result.code);
+ *     }
+ *     for (; (size = urrezkalu_read_slot(report + at, length - at, &slot)) != 0; at += size) {
+ *         urrezkalu_read_sheet(slot.sheet, slot.sheet_length, values[slot.number], URREZKALU_SHEET_VALUES);
  *     }
  *
  * A sheet is the text of credentials alone, as a plan begins and a report ends with one: urrezkalu_read_sheet gives its values as numbers,
@@ -41,7 +59,7 @@
  *
  * Link with libcapi.a. It needs no other library; the symbols that it leaves open are memcpy and memset, which every C library has.
  *
- * What holds of all eight functions:
+ * What holds of all nine functions:
  *
  * One number comes back: the code times 4294967296, plus the line or the place of a fault, or plus how much was written. urrezkalu_code,
  * urrezkalu_line, urrezkalu_place and urrezkalu_length take it apart. What would be refused for several reasons is refused for the first, in the
@@ -58,8 +76,8 @@
  * what is still to be read, and neither the number nor any byte of either means anything.
  *
  * Nothing is allocated, and nothing is kept from one call to the next: any number of threads may call at once, each with a buffer of its own,
- * and so may a signal handler. The time is in proportion to the text. urrezkalu_run_plan needs some 4.5 KiB of stack, urrezkalu_compare_status less
- * than 2 KiB, the others less than 1.5 KiB. */
+ * and so may a signal handler. The time is in proportion to the text. urrezkalu_run_slot_plan needs some 64 KiB of stack, urrezkalu_run_plan
+ * some 4.5 KiB, urrezkalu_compare_status less than 2 KiB, the others less than 1.5 KiB. */
 #ifndef URREZKALU_H
 #define URREZKALU_H
 
@@ -70,11 +88,14 @@
 extern "C" {
 #endif
 
-/* The codes. Each function names those that it has. A step of a plan has the first, second, third or fifth. */
+/* The codes. Each function names those that it has. A step has one of those up to 22 or URREZKALU_UNREADABLE, and only one of a slot plan
+ * URREZKALU_NO_THREAD or URREZKALU_NO_SLOT. */
 enum {
     URREZKALU_DONE = 0,          /* Done. */
     URREZKALU_NOT_PERMITTED = 1, /* Of a step alone: the rules refuse it, and it has a cause. */
-    URREZKALU_OUT_OF_RANGE = 22, /* A set has a bit above 40, or a file's effective bit is neither 0 nor 1. A step: it makes no call. */
+    URREZKALU_NO_THREAD = 3,     /* Of a step alone: the slot that it names is not in use. */
+    URREZKALU_NO_SLOT = 11,      /* Of a step alone, a fork: no slot is free. */
+    URREZKALU_OUT_OF_RANGE = 22, /* A set has a bit above 40, a file's effective bit is neither 0 nor 1; a step makes no call, its slot is above 95. */
     URREZKALU_NO_ROOM = 28,      /* What is to be written is longer than the buffer. */
     URREZKALU_UNREADABLE = 60,   /* The bytes are no attribute. A step: those of its attribute. */
     URREZKALU_MALFORMED = 70,    /* The text is no plan, sheet or status file: urrezkalu_line says where. Or no text in names: urrezkalu_place does. */
@@ -87,6 +108,12 @@ enum {
     URREZKALU_LONGEST_PLAN = 30748,
     /* The most bytes that a report has: a buffer of this length is never too short. */
     URREZKALU_LONGEST_REPORT = 10268,
+    /* The most bytes that a slot plan has. Of a longer text, here too, the first URREZKALU_LONGEST_SLOT_PLAN + 1 bytes decide the line. */
+    URREZKALU_LONGEST_SLOT_PLAN = 32796,
+    /* The most bytes that a slot plan's report has: a buffer of this length is never too short. */
+    URREZKALU_LONGEST_SLOT_REPORT = 37911,
+    /* The slots of a slot plan: 0 to one less than this. */
+    URREZKALU_SLOTS = 96,
     /* The most bytes that a sheet has: a buffer of this length is never too short. Of a longer text, here too, the first
      * URREZKALU_LONGEST_SHEET + 1 bytes decide the line. */
     URREZKALU_LONGEST_SHEET = 284,
@@ -128,9 +155,16 @@ enum {
 
 /* What a report says of a step. */
 struct urrezkalu_result {
-    uint64_t value; /* What a call that is done gives; 0 for a refusal. */
+    uint64_t value; /* What a call that is done gives, and a fork the slot that it takes; 0 for a refusal. */
     uint32_t code;
     uint32_t cause;
+};
+
+/* What a slot plan's report says of a slot in use: its number, and where in the report its sheet stands. */
+struct urrezkalu_slot {
+    const uint8_t *sheet;
+    size_t sheet_length;
+    uint32_t number;
 };
 
 /* The places of a sheet's values, in the order of its lines. In a set, bit n is capability n. */
@@ -175,6 +209,21 @@ enum {
  * Refusals, in this order: URREZKALU_MALFORMED; URREZKALU_INVALID, for the credentials that the plan starts with; URREZKALU_NO_ROOM. A step
  * that is refused does not refuse the plan: its code and its cause are in the report. */
 uint64_t urrezkalu_run_plan(const uint8_t *plan, size_t plan_length, uint8_t *report, size_t report_length);
+
+/* Runs the slot plan and writes its report at the front of the buffer `report`, which has room for `report_length` bytes.
+ *
+ * A slot plan is a sheet and 0 to 256 steps, each of six lines: `slot=`, 0 to 99 and written as `call=` is, and then the five of a plan's step. At
+ * first slot 0 is in use, with the sheet's credentials, and all others are free. Call 30 is fork: it copies all of the credentials in the named slot to
+ * the lowest free slot, whose number is its value. Call 31 is exit: it frees the named slot, be it slot 0 or the last in use, and a later fork can take
+ * it again. Both use no operand and no attribute. Any other call is made by the thread in the named slot, as in a plan, and changes no other slot.
+ *
+ * The report has the results, as a plan's has, and then for each slot in use, the lowest first, a line `slot=` and its sheet. Where none is in use it
+ * ends after the results.
+ *
+ * Refusals, in this order: URREZKALU_MALFORMED; URREZKALU_INVALID, for the credentials that the slot plan starts with; URREZKALU_NO_ROOM. A step that
+ * is refused does not refuse the slot plan. Its refusals, in this order: URREZKALU_OUT_OF_RANGE, for a slot above 95; URREZKALU_NO_THREAD; those of the
+ * call, with URREZKALU_OUT_OF_RANGE for a fork or an exit that has a nonzero operand or an attribute; URREZKALU_NO_SLOT. */
+uint64_t urrezkalu_run_slot_plan(const uint8_t *plan, size_t plan_length, uint8_t *report, size_t report_length);
 
 /* Reads a sheet into the first URREZKALU_SHEET_VALUES of the `values_count` values, and URREZKALU_SHEET_VALUES is the length that comes back.
  *
@@ -248,10 +297,10 @@ static inline uint32_t urrezkalu_code(uint64_t number)
     return (uint32_t)(number >> 32);
 }
 
-/* The first line at fault, for URREZKALU_MALFORMED of a plan, a sheet or a status file. Of a plan, 1 to 1296, and of a sheet, 1 to 16, it is one more
- * than the complete correct lines before it. Of a status file it is 1 or more, and 4294967295 stands for that line or any greater one; where
- * urrezkalu_compare_status has 0, it is the sheet beside it that is malformed. 0 for the other codes. Of a text in names the number has no line, but
- * a place: urrezkalu_place. */
+/* The first line at fault, for URREZKALU_MALFORMED of a plan, a slot plan, a sheet or a status file. Of a plan, 1 to 1296, of a slot plan, 1 to 1552,
+ * and of a sheet, 1 to 16, it is one more than the complete correct lines before it. Of a status file it is 1 or more, and 4294967295 stands for that
+ * line or any greater one; where urrezkalu_compare_status has 0, it is the sheet beside it that is malformed. 0 for the other codes. Of a text in names
+ * the number has no line, but a place: urrezkalu_place. */
 static inline uint32_t urrezkalu_line(uint64_t number)
 {
     return urrezkalu_code(number) == URREZKALU_MALFORMED ? (uint32_t)(number & UINT32_MAX) : 0;
@@ -272,8 +321,8 @@ static inline size_t urrezkalu_length(uint64_t number)
     return urrezkalu_code(number) == URREZKALU_DONE ? (size_t)(number & UINT32_MAX) : 0;
 }
 
-/* For urrezkalu_read_result: the number of the line `key`, digits of that base and a newline, which begins at `at`; the position past it comes back,
- * or 0 where there is no such line. */
+/* For those that take a report apart: the number of the line `key`, digits of that base and a newline, which begins at `at`; the position past it comes
+ * back, or 0 where there is no such line. */
 static inline size_t urrezkalu_read_line_(const uint8_t *text, size_t length, size_t at, const char *key, unsigned base, uint64_t *number)
 {
     for (; *key != '\0'; key++, at++) {
@@ -296,7 +345,7 @@ static inline size_t urrezkalu_read_line_(const uint8_t *text, size_t length, si
 }
 
 /* Reads the result of a step at the front of a report, or of what is left of one, and gives how many bytes its lines have. 0 comes back, and
- * `result` is as it was, where no result stands there: that is so where the sheet begins, after the last. */
+ * `result` is as it was, where no result stands there: that is so after the last, where the sheet or the first slot begins or the report ends. */
 static inline size_t urrezkalu_read_result(const uint8_t *report, size_t report_length, struct urrezkalu_result *result)
 {
     uint64_t code, value, cause;
@@ -310,6 +359,29 @@ static inline size_t urrezkalu_read_result(const uint8_t *report, size_t report_
     result->code = (uint32_t)code;
     result->cause = (uint32_t)cause;
     return at;
+}
+
+/* Reads the slot at the front of what is left of a slot plan's report after its results, and gives how many bytes its `slot=` line and its sheet have.
+ * 0 comes back, and `slot` is as it was, where no slot stands there: that is so at the report's end, after the last. The sheet is the fifteen lines
+ * that follow, for urrezkalu_read_sheet or to lay a status file beside it; nothing is asked of them here. */
+static inline size_t urrezkalu_read_slot(const uint8_t *report, size_t report_length, struct urrezkalu_slot *slot)
+{
+    uint64_t number;
+    size_t first = urrezkalu_read_line_(report, report_length, 0, "slot=", 10, &number);
+    if (first == 0 || number >= URREZKALU_SLOTS) {
+        return 0;
+    }
+    size_t end = first;
+    for (size_t lines = 0; lines < URREZKALU_SHEET_VALUES; end++) {
+        if (end == report_length) {
+            return 0;
+        }
+        lines += report[end] == '\n';
+    }
+    slot->sheet = report + first;
+    slot->sheet_length = end - first;
+    slot->number = (uint32_t)number;
+    return end;
 }
 
 /* A cause in words. */

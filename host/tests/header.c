@@ -1,5 +1,5 @@
-/* The C header: the number taken apart, with every code; lengths and places; the causes, and a report taken apart; every function by its name. To be
- * built as C11 and as C++11, and linked with the library in both.
+/* The C header: the number taken apart, with every code; lengths and places; the causes, and reports of both forms taken apart; every function by its
+ * name. To be built as C11 and as C++11, and linked with the library in both.
  *
  *     header */
 #include "../include/urrezkalu.h"
@@ -18,6 +18,12 @@ static_assert(URREZKALU_LONGEST_SHEET == 2 * (3 * 16 + 17) + 27 + 29 + 27 + 26 +
 static_assert(URREZKALU_ATTRIBUTE_LENGTH == 5 * 4, "five words of an attribute");
 static_assert(URREZKALU_LONGEST_LIST == 3 * 27 + 28 + 44 + 46 + 44 + 43 + 42 + 8 + 36, "the longest list, line by line");
 static_assert(URREZKALU_LONGEST_LIST == 372, "the longest list");
+static_assert(URREZKALU_LONGEST_SLOT_PLAN == 284 + 256 * (8 + 8 + 3 * 19 + 54), "the longest slot plan, line by line");
+static_assert(URREZKALU_LONGEST_SLOT_PLAN == 32796, "the longest slot plan");
+static_assert(URREZKALU_LONGEST_SLOT_REPORT == 95 * 38 + 161 * 39 + 96 * 284 + 10 * 7 + 86 * 8,
+              "the longest report of a slot plan: forks, refusals, sheets, and the lines of their slots");
+static_assert(URREZKALU_LONGEST_SLOT_REPORT == 37911, "the longest report of a slot plan");
+static_assert(URREZKALU_SLOTS == 96, "the table");
 
 /* The places are in the order of a sheet's lines, of "attached, permitted, inheritable, effective bit", and of "permitted, inheritable, effective". */
 static_assert(URREZKALU_RUID == 0 && URREZKALU_EUID == 1 && URREZKALU_SUID == 2 && URREZKALU_FSUID == 3, "the places of the user IDs");
@@ -33,7 +39,7 @@ static_assert(URREZKALU_NAMED_VALUES == 3, "their count");
 
 /* The paper's table "What comes back". */
 static_assert(URREZKALU_DONE == 0 && URREZKALU_OUT_OF_RANGE == 22 && URREZKALU_NO_ROOM == 28, "codes that are errors of the system too");
-static_assert(URREZKALU_NOT_PERMITTED == 1, "the code of a step alone");
+static_assert(URREZKALU_NOT_PERMITTED == 1 && URREZKALU_NO_THREAD == 3 && URREZKALU_NO_SLOT == 11, "the codes of a step alone");
 static_assert(URREZKALU_UNREADABLE == 60 && URREZKALU_MALFORMED == 70 && URREZKALU_INVALID == 72, "codes of the house");
 
 /* "Why it was refused": the causes and their numbers. */
@@ -65,6 +71,7 @@ static const struct number numbers[] = {
     {372, URREZKALU_DONE, 0, URREZKALU_LONGEST_LIST},
     {748, URREZKALU_DONE, 0, URREZKALU_LONGEST_NAMES},
     {10268, URREZKALU_DONE, 0, URREZKALU_LONGEST_REPORT},
+    {37911, URREZKALU_DONE, 0, URREZKALU_LONGEST_SLOT_REPORT},
     {4294967295, URREZKALU_DONE, 0, 4294967295},
     {94489280512, URREZKALU_OUT_OF_RANGE, 0, 0},
     {120259084288, URREZKALU_NO_ROOM, 0, 0},
@@ -73,6 +80,7 @@ static const struct number numbers[] = {
     {300647710721, URREZKALU_MALFORMED, 1, 0},
     {300647710736, URREZKALU_MALFORMED, 16, 0},
     {300647712016, URREZKALU_MALFORMED, 1296, 0},
+    {300647712272, URREZKALU_MALFORMED, 1552, 0},
     {304942678015, URREZKALU_MALFORMED, 4294967295, 0},
     {309237645312, URREZKALU_INVALID, 0, 0},
     {4294967301, 1, 0, 0},
@@ -102,6 +110,14 @@ static int is_as_expected(const struct number *expected)
     return urrezkalu_code(expected->whole) == expected->code && urrezkalu_line(expected->whole) == expected->line &&
            urrezkalu_place(expected->whole) == expected->line && urrezkalu_length(expected->whole) == expected->length;
 }
+
+/* The shortest sheet, which has 212 bytes; and one of 217, in which hardly two values are alike. */
+#define ZEROS \
+    "ruid=0\neuid=0\nsuid=0\nfsuid=0\nrgid=0\negid=0\nsgid=0\nfsgid=0\npermitted=0000000000000000\ninheritable=0000000000000000\n" \
+    "effective=0000000000000000\nbounding=0000000000000000\nambient=0000000000000000\nsecurebits=00\nnnp=0\n"
+#define OTHER \
+    "ruid=1\neuid=2\nsuid=34\nfsuid=5\nrgid=6\negid=78\nsgid=9\nfsgid=1000\npermitted=000000000000000f\ninheritable=0000000000000006\n" \
+    "effective=0000000000000003\nbounding=000001ffffffffff\nambient=0000000000000002\nsecurebits=2f\nnnp=1\n"
 
 /* Three results and what stands after them, and where each result ends. */
 static const char report[] = "code=0\nvalue=00000000000000ff\ncause=0\n"
@@ -153,6 +169,45 @@ static void expect_no_results(void)
     }
 }
 
+/* Two slots and what stands after them, and where each ends and its sheet begins. */
+static const char slots[] = "slot=7\n" OTHER "slot=95\n" ZEROS "slot=96\n" ZEROS;
+static const size_t slot_ends[] = {0, 224, 444};
+static const size_t sheet_starts[] = {7, 232};
+static const uint32_t slot_numbers[] = {7, 95};
+
+/* The first `length` bytes have as many slots as are whole. */
+static void expect_slots(size_t length)
+{
+    const uint8_t *text = (const uint8_t *)slots;
+    for (size_t i = 0; i < 3; i++) {
+        struct urrezkalu_slot found = {NULL, 7, 70};
+        size_t size = slot_ends[i] <= length ? urrezkalu_read_slot(text + slot_ends[i], length - slot_ends[i], &found) : 0;
+        if (i < 2 && slot_ends[i + 1] <= length) {
+            expect(size == slot_ends[i + 1] - slot_ends[i] && found.number == slot_numbers[i], length, "bytes have another slot");
+            expect(found.sheet == text + sheet_starts[i] && found.sheet_length == slot_ends[i + 1] - sheet_starts[i], length, "bytes have another sheet");
+        } else {
+            expect(size == 0 && found.sheet == NULL && found.sheet_length == 7 && found.number == 70, length, "bytes have no such slot");
+        }
+    }
+}
+
+/* What stands before a sheet and makes it no slot's. */
+static const char *const no_slots[] = {
+    "",           "slot=96\n",          "slot=100\n",  "slot=\n",    "slot=+1\n", "slot=1 \n", "slot=a\n",
+    "slot=1\r\n", "slot=4294967296\n", "Slot=1\n",    "slot 1\n",   "slots=1\n", "call=1\n",  "slot=18446744073709551616\n",
+};
+
+static void expect_no_slots(void)
+{
+    char text[sizeof ZEROS + 32];
+    struct urrezkalu_slot found;
+    for (size_t i = 0; i < sizeof no_slots / sizeof no_slots[0]; i++) {
+        size_t length = (size_t)snprintf(text, sizeof text, "%s" ZEROS, no_slots[i]);
+        expect(urrezkalu_read_slot((const uint8_t *)text, length, &found) == 0, i, "is no slot and was read as one");
+    }
+    expect(urrezkalu_read_slot(NULL, 0, &found) == 0, 0, "bytes are no slot");
+}
+
 /* Every cause has words of its own, and no other number has. */
 static void expect_words(void)
 {
@@ -187,12 +242,36 @@ static void expect_comparisons(void)
     expect(urrezkalu_length(number) == 44 && memcmp(list, expected, sizeof expected - 1) == 0, number, "bytes are not the list of two lines");
 }
 
+/* A slot plan: none; one without a step, with no room and with room; and one in which a child of slot 0 is left, which is then taken apart. */
+static void expect_slot_plans(void)
+{
+    static const char plan[] = OTHER "slot=0\ncall=30\na=0000000000000000\nb=0000000000000000\nc=0000000000000000\nattr=\n"
+                                     "slot=0\ncall=31\na=0000000000000000\nb=0000000000000000\nc=0000000000000000\nattr=\n";
+    static const char expected[] = "code=0\nvalue=0000000000000001\ncause=0\ncode=0\nvalue=0000000000000000\ncause=0\nslot=1\n" OTHER;
+    const uint8_t *text = (const uint8_t *)plan;
+    uint8_t report[URREZKALU_LONGEST_SLOT_REPORT];
+    struct urrezkalu_slot slot;
+    uint64_t values[URREZKALU_SHEET_VALUES];
+    expect_answer(urrezkalu_run_slot_plan(NULL, 0, NULL, 0), 300647710721, "comes back for an empty slot plan, malformed at line 1");
+    expect_answer(urrezkalu_run_slot_plan(text, sizeof OTHER - 1, NULL, 0), 120259084288, "comes back for a slot plan without room");
+    expect_answer(urrezkalu_run_slot_plan(text, sizeof OTHER - 1, report, sizeof report), 224, "comes back for a slot plan without a step");
+    uint64_t number = urrezkalu_run_slot_plan(text, sizeof plan - 1, report, sizeof report);
+    expect_answer(number, 300, "comes back for a slot plan of two steps");
+    expect(memcmp(report, expected, sizeof expected - 1) == 0, number, "bytes are not the report of that slot plan");
+    expect(urrezkalu_read_slot(report + 76, urrezkalu_length(number) - 76, &slot) == 224 && slot.number == 1, number, "bytes do not end with slot 1");
+    expect_answer(urrezkalu_read_sheet(slot.sheet, slot.sheet_length, values, URREZKALU_SHEET_VALUES), 15, "comes back for the sheet of slot 1");
+}
+
 int main(void)
 {
     for (size_t length = 0; length < sizeof report; length++) {
         expect_results(length);
     }
     expect_no_results();
+    for (size_t length = 0; length < sizeof slots; length++) {
+        expect_slots(length);
+    }
+    expect_no_slots();
     expect_words();
     for (size_t i = 0; i < sizeof numbers / sizeof numbers[0]; i++) {
         expect(is_as_expected(&numbers[i]), numbers[i].whole, "is taken apart wrongly");
@@ -207,6 +286,7 @@ int main(void)
     expect_answer(urrezkalu_write_names(0, 0, 0, NULL, 0), 0, "comes back for empty sets in names, which need no room");
     expect_answer(urrezkalu_write_names(0, 0, 0x20000000000, NULL, 0), 94489280512, "comes back for capability 41 in names, which is out of range");
     expect_comparisons();
+    expect_slot_plans();
     printf("header: %zu of %zu numbers as expected\n", tried - faults, tried);
     return faults == 0 ? 0 : 1;
 }
