@@ -7,6 +7,12 @@ mod c {
     // A slice of Rattle is a pointer and a length.
     extern "C" {
         pub fn urrezkalu_run_plan(plan: *const u8, plan_length: usize, report: *mut u8, report_length: usize) -> u64;
+        pub fn urrezkalu_run_slot_plan(
+            plan: *const u8,
+            plan_length: usize,
+            report: *mut u8,
+            report_length: usize,
+        ) -> u64;
         pub fn urrezkalu_read_sheet(text: *const u8, text_length: usize, values: *mut u64, values_count: usize) -> u64;
         pub fn urrezkalu_write_sheet(
             values: *const u64,
@@ -62,10 +68,37 @@ mod c {
 /// let _ = urrezkalu::interface::run_plan(&bytes, &mut bytes);
 /// ```
 ///
-/// Nor can they in [`compare_status`]; in the other functions they are of different types besides.
+/// Nor can they in [`run_slot_plan`] and [`compare_status`]; in the other functions they are of different types besides.
 #[must_use]
 pub fn run_plan(plan: &[u8], report: &mut [u8]) -> u64 {
     unsafe { c::urrezkalu_run_plan(plan.as_ptr(), plan.len(), report.as_mut_ptr(), report.len()) }
+}
+
+/// `urrezkalu_run_slot_plan`: 70, 72, 28, or 0 and the report's length. See [`crate::run_slot_plan`].
+///
+/// ```
+/// let sheet = b"ruid=0\neuid=0\nsuid=0\nfsuid=0\nrgid=0\negid=0\nsgid=0\nfsgid=0\n\
+///     permitted=0000000000000000\ninheritable=0000000000000000\neffective=0000000000000000\n\
+///     bounding=0000000000000000\nambient=0000000000000000\nsecurebits=00\nnnp=0\n";
+/// let mut report = [0xff; 220];
+/// assert_eq!(urrezkalu::interface::run_slot_plan(sheet, &mut report), 219);
+/// assert_eq!(report[..7], *b"slot=0\n");
+/// assert_eq!(report[7..219], *sheet);
+/// assert_eq!(report[219], 0xff);
+///
+/// assert_eq!(urrezkalu::interface::run_slot_plan(&sheet[..211], &mut report), 70 << 32 | 15);
+/// assert_eq!(urrezkalu::interface::run_slot_plan(sheet, &mut report[..218]), 28 << 32);
+/// ```
+///
+/// What is read and what is written cannot overlap:
+///
+/// ```compile_fail,E0502
+/// let mut bytes = [0; 16];
+/// let _ = urrezkalu::interface::run_slot_plan(&bytes, &mut bytes);
+/// ```
+#[must_use]
+pub fn run_slot_plan(plan: &[u8], report: &mut [u8]) -> u64 {
+    unsafe { c::urrezkalu_run_slot_plan(plan.as_ptr(), plan.len(), report.as_mut_ptr(), report.len()) }
 }
 
 /// `urrezkalu_read_sheet`: 70, 72, 28 where there are fewer than fifteen values, or 0 and 15. See [`crate::read_sheet`].

@@ -1,7 +1,9 @@
-//! The proved library, as safe Rust functions: plans, credential sheets, file attributes, capability sets in names, and status files.
+//! The proved library, as safe Rust functions: plans, slot plans, credential sheets, file attributes, capability sets in names, and status files.
 //!
 //! - A plan is a credential sheet and 0 to 256 steps, each a call that a thread makes. [`run_plan`] says what the calls answer and what the thread
 //!   holds after them, or why the plan is refused. [`results`] takes a report apart: what each step came to, and why it was refused.
+//! - A slot plan is of a family of up to 96 threads, which fork and exit: each step names the slot whose thread makes the call. [`run_slot_plan`] says
+//!   what the steps answer and what each thread holds after them; [`slots`] takes that end of its report apart.
 //! - A sheet is the text of a thread's credentials: [`read_sheet`] and [`write_sheet`].
 //! - An attribute is the bytes of a file's security.capability: [`read_attribute`] and [`write_attribute`].
 //! - A text in names stands for three capability sets, in the form of cap_text_formats(7), as `cap_net_raw+ep` does: [`read_names`] and
@@ -10,7 +12,8 @@
 //!   differs; [`differences`] takes a list apart.
 //!
 //! Every input gets an answer; nothing panics and nothing is allocated. Nothing is kept from one call to the next, so that any number of threads
-//! may call at once. A plan's run needs some 4.5 KiB of stack, a comparison less than 2 KiB, the other functions less than 1.5 KiB.
+//! may call at once. A slot plan's run needs some 64 KiB of stack, a plan's some 4.5 KiB, a comparison less than 2 KiB, the other functions less than
+//! 1.5 KiB.
 //!
 //! ```
 //! use urrezkalu::{run_plan, Outcome, LONGEST_REPORT};
@@ -42,6 +45,8 @@ mod number;
 mod plan;
 mod report;
 mod sheet;
+mod slot_plan;
+mod slots;
 mod status;
 
 pub use attribute::{
@@ -55,4 +60,6 @@ pub use names::{read_names, write_names, NamedSets, NamesReading, NamesWriting, 
 pub use plan::{run_plan, Outcome, LONGEST_PLAN, LONGEST_REPORT};
 pub use report::{results, Results, StepResult};
 pub use sheet::{read_sheet, write_sheet, SheetReading, SheetWriting, LONGEST_SHEET};
+pub use slot_plan::{run_slot_plan, LONGEST_SLOT_PLAN, LONGEST_SLOT_REPORT, SLOTS};
+pub use slots::{slots, Slots};
 pub use status::{compare_status, StatusComparison, LONGEST_LIST};

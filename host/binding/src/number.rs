@@ -2,6 +2,8 @@
 
 pub(crate) const DONE: u32 = 0;
 pub(crate) const NOT_PERMITTED: u32 = 1;
+pub(crate) const NO_THREAD: u32 = 3;
+pub(crate) const NO_SLOT: u32 = 11;
 pub(crate) const OUT_OF_RANGE: u32 = 22;
 pub(crate) const NO_ROOM: u32 = 28;
 pub(crate) const UNREADABLE: u32 = 60;

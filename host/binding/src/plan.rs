@@ -11,7 +11,7 @@ pub const LONGEST_PLAN: usize = 30_748;
 /// The most bytes that a report has: a buffer of this length is never too short.
 pub const LONGEST_REPORT: usize = 10_268;
 
-/// What a plan comes to.
+/// What a plan or a slot plan comes to.
 #[derive(Clone, Copy, Debug, PartialEq, Eq)]
 #[must_use]
 pub enum Outcome {
@@ -106,7 +106,7 @@ pub fn run_plan(plan: &[u8], report: &mut [u8]) -> Outcome {
     outcome(interface::run_plan(plan, report))
 }
 
-fn outcome(number: u64) -> Outcome {
+pub(crate) fn outcome(number: u64) -> Outcome {
     match apart(number) {
         (DONE, length) => Outcome::Report { length: length as usize },
         (MALFORMED, line) => Outcome::Malformed { line },
@@ -119,15 +119,18 @@ fn outcome(number: u64) -> Outcome {
 #[cfg(test)]
 mod tests {
     use super::{outcome, Outcome, LONGEST_REPORT};
+    use crate::LONGEST_SLOT_REPORT;
 
     // The paper's numbers, multiplied out: code times 4294967296 plus line or length.
     #[test]
     fn every_code_is_taken_apart() {
         assert_eq!(outcome(274), Outcome::Report { length: 274 });
         assert_eq!(outcome(10_268), Outcome::Report { length: LONGEST_REPORT });
+        assert_eq!(outcome(37_911), Outcome::Report { length: LONGEST_SLOT_REPORT });
         assert_eq!(outcome(4_294_967_295), Outcome::Report { length: 4_294_967_295 });
         assert_eq!(outcome(300_647_710_721), Outcome::Malformed { line: 1 });
         assert_eq!(outcome(300_647_712_016), Outcome::Malformed { line: 1_296 });
+        assert_eq!(outcome(300_647_712_272), Outcome::Malformed { line: 1_552 });
         assert_eq!(outcome(304_942_678_015), Outcome::Malformed { line: 4_294_967_295 });
         assert_eq!(outcome(309_237_645_312), Outcome::Invalid);
         assert_eq!(outcome(120_259_084_288), Outcome::NoRoom);

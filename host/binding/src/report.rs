@@ -3,31 +3,37 @@
 use core::fmt;
 
 use crate::cause::Cause;
-use crate::number::{DONE, NOT_PERMITTED, OUT_OF_RANGE, UNREADABLE};
+use crate::number::{DONE, NOT_PERMITTED, NO_SLOT, NO_THREAD, OUT_OF_RANGE, UNREADABLE};
 
 /// What a report says of a step.
 #[derive(Clone, Copy, Debug, PartialEq, Eq)]
 pub enum StepResult {
     /// The call was done.
     Done {
-        /// What the call gives: a bit, the flags or the old filesystem ID; 0 for a call that gives nothing.
+        /// What the call gives: a bit, the flags, the old filesystem ID or the slot that a fork takes; 0 for a call that gives nothing.
         value: u64,
     },
     /// The rules refuse the call.
     NotPermitted(Cause),
-    /// Number, operands and attribute make no call.
+    /// In a slot plan alone: the slot that is named is not in use.
+    NoThread,
+    /// In a slot plan alone, of a fork: no slot is free.
+    NoSlot,
+    /// Number, operands and attribute make no call; or, in a slot plan, the slot that is named is above 95.
     InvalidArgument,
     /// The attribute cannot be read.
     UnreadableAttribute,
 }
 
 impl StepResult {
-    /// The code of this result: 0 done, 1 refused by the rules, 22 no call, 60 attribute unreadable.
+    /// The code of this result: 0 done, 1 refused by the rules, 3 slot not in use, 11 no slot free, 22 no call, 60 attribute unreadable.
     #[must_use]
     pub const fn code(self) -> u32 {
         match self {
             StepResult::Done { .. } => DONE,
             StepResult::NotPermitted(_) => NOT_PERMITTED,
+            StepResult::NoThread => NO_THREAD,
+            StepResult::NoSlot => NO_SLOT,
             StepResult::InvalidArgument => OUT_OF_RANGE,
             StepResult::UnreadableAttribute => UNREADABLE,
         }
@@ -47,6 +53,8 @@ impl StepResult {
         let result = match u32::try_from(code).ok()? {
             DONE => StepResult::Done { value },
             NOT_PERMITTED => StepResult::NotPermitted(Cause::from_number(cause)?),
+            NO_THREAD => StepResult::NoThread,
+            NO_SLOT => StepResult::NoSlot,
             OUT_OF_RANGE => StepResult::InvalidArgument,
             UNREADABLE => StepResult::UnreadableAttribute,
             _ => return None,
@@ -63,27 +71,31 @@ impl StepResult {
 ///
 /// assert_eq!(StepResult::Done { value: 0 }.to_string(), "done");
 /// assert_eq!(StepResult::NotPermitted(Cause::LockUndone).to_string(), "refused: a lock of the securebits would be undone");
+/// assert_eq!(StepResult::NoThread.to_string(), "refused: the slot is not in use");
 /// ```
 impl fmt::Display for StepResult {
     fn fmt(&self, f: &mut fmt::Formatter<'_>) -> fmt::Result {
         match self {
             StepResult::Done { .. } => write!(f, "done"),
             StepResult::NotPermitted(cause) => write!(f, "refused: {cause}"),
+            StepResult::NoThread => write!(f, "refused: the slot is not in use"),
+            StepResult::NoSlot => write!(f, "refused: no slot is free"),
             StepResult::InvalidArgument => write!(f, "refused: number, operands and attribute make no call"),
             StepResult::UnreadableAttribute => write!(f, "refused: the attribute cannot be read"),
         }
     }
 }
 
-/// The results in a report, in the order of the plan's steps.
+/// The results in a report, in the order of the steps.
 #[derive(Clone, Debug)]
 pub struct Results<'a> {
     rest: &'a [u8],
 }
 
-/// The results in `report`, which a run has written. Of any other text they are those at its front, as far as they have the form of results.
+/// The results in `report`, which the run of a plan or of a slot plan has written. Of any other text they are those at its front, as far as they
+/// have the form of results.
 ///
-/// A step stands in five lines of the plan, after the fifteen of its sheet:
+/// A step stands in five lines of the plan, after the fifteen of its sheet, and in six of a slot plan:
 ///
 /// ```
 /// use urrezkalu::{results, run_plan, Cause, Outcome, StepResult, LONGEST_REPORT};
@@ -108,7 +120,7 @@ pub const fn results(report: &[u8]) -> Results<'_> {
 }
 
 impl<'a> Results<'a> {
-    /// What has not been read: after the last result, the sheet.
+    /// What has not been read: after the last result, the sheet, or the slots of a slot plan's report.
     #[must_use]
     pub const fn rest(&self) -> &'a [u8] {
         self.rest
@@ -161,10 +173,12 @@ mod tests {
 
     #[test]
     fn every_code_is_told() {
-        let codes = [0, 1, 22, 60];
+        let codes = [0, 1, 3, 11, 22, 60];
         let told = [
             StepResult::Done { value: 0 },
             StepResult::NotPermitted(Cause::LockUndone),
+            StepResult::NoThread,
+            StepResult::NoSlot,
             StepResult::InvalidArgument,
             StepResult::UnreadableAttribute,
         ];
@@ -185,6 +199,10 @@ mod tests {
             (0, 0, 1),
             (22, 0, 10),
             (22, 1, 0),
+            (3, 0, 1),
+            (3, 1, 0),
+            (11, 0, 11),
+            (11, 96, 0),
             (1, 1, 1),
             (1 << 32, 0, 0),
         ] {
