@@ -1,11 +1,11 @@
-//! Every plan of the repository's examples, with the report beside it.
+//! Every plan and slot plan of the repository's examples, with the report beside it.
 
 mod plans;
 
 use std::fs;
 use std::path::{Path, PathBuf};
 
-use urrezkalu::{run_plan, Outcome, LONGEST_REPORT};
+use urrezkalu::{run_plan, run_slot_plan, Outcome, LONGEST_SLOT_REPORT};
 
 /// The plans of a directory and of those within it.
 fn plans_within(directory: &Path) -> Vec<PathBuf> {
@@ -31,20 +31,27 @@ fn written(outcome: Outcome, buffer: &[u8]) -> Vec<u8> {
     }
 }
 
+/// Whether a plan is a slot plan: those in slots/ are.
+fn has_slots(path: &Path) -> bool {
+    path.parent().is_some_and(|directory| directory.ends_with("slots"))
+}
+
 #[test]
 fn every_example_has_its_report() {
     let mut codes = Vec::new();
     for path in plans_within(&plans::examples()) {
         let plan = fs::read(&path).expect("the plan can be read");
         let report = fs::read(path.with_extension("report")).expect("the plan has a report beside it");
-        let mut buffer = [0; LONGEST_REPORT];
-        let outcome = run_plan(&plan, &mut buffer);
+        let mut buffer = [0; LONGEST_SLOT_REPORT];
+        let outcome = if has_slots(&path) { run_slot_plan(&plan, &mut buffer) } else { run_plan(&plan, &mut buffer) };
         let found = written(outcome, &buffer);
         assert_eq!(String::from_utf8_lossy(&found), String::from_utf8_lossy(&report), "{}", path.display());
-        codes.push(outcome.code());
+        codes.push((has_slots(&path), outcome.code()));
     }
-    // The examples have each of them; a walk that found none would prove nothing.
+    // The examples of both forms have each of them; a walk that found none would prove nothing.
     for code in [0, 70, 72] {
-        assert!(codes.contains(&code), "no example of code {code}");
+        for has_slots in [false, true] {
+            assert!(codes.contains(&(has_slots, code)), "no example of code {code}, slots {has_slots}");
+        }
     }
 }

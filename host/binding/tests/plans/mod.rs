@@ -20,15 +20,23 @@ pub fn read(name: &str) -> Vec<u8> {
     fs::read(&path).unwrap_or_else(|error| panic!("{}: {error}", path.display()))
 }
 
-/// A plan in which every line is as long as it can be, with 256 steps. Every step is refused with 22: 99 is no call.
-pub fn longest_plan() -> Vec<u8> {
+/// A sheet in which every line is as long as it can be.
+pub fn longest_sheet() -> String {
     let id = u32::MAX - 1;
     let full = "000001ffffffffff";
-    let ones = "ffffffffffffffff";
-    let sheet = format!(
+    format!(
         "ruid={id}\neuid={id}\nsuid={id}\nfsuid={id}\nrgid={id}\negid={id}\nsgid={id}\nfsgid={id}\n\
          permitted={full}\ninheritable={full}\neffective={full}\nbounding={full}\nambient={full}\nsecurebits=ff\nnnp=1\n"
-    );
-    let step = format!("call=99\na={ones}\nb={ones}\nc={ones}\nattr={}\n", "f".repeat(48));
-    [sheet, step.repeat(256)].concat().into_bytes()
+    )
+}
+
+/// The lines of a step from `call=` on, each as long as it can be. It is refused with 22: 99 is no call.
+pub fn longest_step() -> String {
+    let ones = "ffffffffffffffff";
+    format!("call=99\na={ones}\nb={ones}\nc={ones}\nattr={}\n", "f".repeat(48))
+}
+
+/// A plan in which every line is as long as it can be, with 256 steps.
+pub fn longest_plan() -> Vec<u8> {
+    [longest_sheet(), longest_step().repeat(256)].concat().into_bytes()
 }
