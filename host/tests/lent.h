@@ -1,5 +1,5 @@
-/* What sheets.c, attributes.c, names.c and those of status texts share: memory that is lent to the library, what it holds before and after, and what
- * is counted. Whoever includes it has defined TEST, the name of the test in its messages. */
+/* What sheets.c, attributes.c, names.c and those of status texts and slot plans share: memory that is lent to the library, what it holds before and
+ * after, and what is counted. Whoever includes it has defined TEST, the name of the test in its messages. */
 #ifndef LENT_H
 #define LENT_H
 
