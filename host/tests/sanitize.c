@@ -1,14 +1,15 @@
 /* The C interface under the address and undefined-behaviour sanitizers, and between inaccessible pages.
  *
- *     sanitize PLAN.. [-]      runs the plans, and with `-` a stream of them on standard input; and attributes, texts in names and status texts of
- *                              its own
+ *     sanitize PLAN.. [-]      runs the plans, and with `-` a stream of them on standard input; and attributes, texts in names, status texts and
+ *                              slot plans of its own
  *     sanitize --self-test     shows that the guards and the checks catch what they are there for
  *
  * In the stream each plan is its length, 32 bits with the least significant byte first, and then its bytes.
  *
  * A text is run as a plan, and read as a sheet, whole and in its first fifteen lines; what is read is written again. It is read as a text in names
- * too, and as a status text beside its own first lines. Beside a sheet there is laid a status text of its values, and one with another value. Texts that
- * are in names and status texts are good and broken, the good ones whole and cut at every byte. Attributes are of every length from none to past the
+ * too, and as a status text beside its own first lines. Beside a sheet there is laid a status text of its values, and one with another value. The text
+ * is run as a slot plan, and so is the slot plan that has its steps in slot 0, or in slot 1 after a fork. Texts that are in names, status texts and slot
+ * plans are good and broken, the good ones whole and cut at every byte. Attributes are of every length from none to past the
  * longest. Each function is called with no room, with one place too few, with exactly enough and with more; to read values, to write an attribute
  * or to write sets in names, with every number of places from none to past enough. All that in three places: with all buffers at the very end, and
  * then at the very start, of mappings that have inaccessible pages on both sides, what is read in pages that cannot be written; and then in heap
@@ -125,13 +126,14 @@ int main(int argc, char **argv)
     try_attributes(&bench);
     try_names(&bench);
     try_statuses(&bench);
+    try_slot_plans(&bench);
     clear_away(&bench);
     if (bench.texts == 0) {
         fprintf(stderr, "sanitize: no plans: sanitize PLAN.. [-], or sanitize --self-test\n");
         return TROUBLE;
     }
-    printf("sanitize: %zu texts, %zu attributes, %zu texts in names, %zu status texts, %zu runs, %zu faults\n", bench.texts, bench.attributes,
-           bench.names, bench.statuses, bench.runs, bench.faults);
+    printf("sanitize: %zu texts, %zu attributes, %zu texts in names, %zu status texts, %zu slot plans, %zu runs, %zu faults\n", bench.texts,
+           bench.attributes, bench.names, bench.statuses, bench.slot_plans, bench.runs, bench.faults);
     if (bench.faults != 0) {
         return FAULTS;
     }

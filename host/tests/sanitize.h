@@ -31,7 +31,18 @@ void unmap_guarded(struct guarded pages);
 void allow(struct guarded pages, int protection);
 
 /* The functions of the header. */
-enum function { RUN_PLAN, READ_SHEET, WRITE_SHEET, READ_ATTRIBUTE, WRITE_ATTRIBUTE, READ_NAMES, WRITE_NAMES, COMPARE_STATUS, FUNCTIONS };
+enum function {
+    RUN_PLAN,
+    RUN_SLOT_PLAN,
+    READ_SHEET,
+    WRITE_SHEET,
+    READ_ATTRIBUTE,
+    WRITE_ATTRIBUTE,
+    READ_NAMES,
+    WRITE_NAMES,
+    COMPARE_STATUS,
+    FUNCTIONS
+};
 
 /* A call of any of them, with what it reads and what it may write as bytes. What urrezkalu_write_attribute and urrezkalu_write_names have for an
  * input are their operands. urrezkalu_compare_status alone has a sheet beside its input. */
@@ -77,6 +88,7 @@ struct bench {
     size_t attributes;
     size_t names;
     size_t statuses;
+    size_t slot_plans;
     size_t done[FUNCTIONS]; /* The inputs with which each function was done, and those that it refused. */
     size_t refused[FUNCTIONS];
     size_t runs;
@@ -102,7 +114,7 @@ void lay_beside(struct bench *bench, const uint8_t *sheet, size_t sheet_length);
 struct trial {
     enum function function;
     uint64_t number;
-    uint8_t output[URREZKALU_LONGEST_REPORT];
+    uint8_t output[URREZKALU_LONGEST_SLOT_REPORT];
 };
 
 /* Runs the function in all places with all rooms: whether that was as it has to be. */
@@ -111,8 +123,8 @@ bool try_function(struct bench *bench, struct trial *trial, enum function functi
 /* Counts a fault of the input and the function that were tried last, unless all is right. */
 void expect(struct bench *bench, bool right, const char *what);
 
-/* Runs a text: as a plan, as a sheet, as one in names and as a status text; its first fifteen lines as a sheet, also beside status texts; and the values
- * of that. */
+/* Runs a text: as a plan, as a slot plan and with its steps in a slot, as a sheet, as one in names and as a status text; its first fifteen lines as a
+ * sheet, also beside status texts; and the values of that. */
 void try_text(struct bench *bench, const char *name, size_t position, const uint8_t *text, size_t text_length);
 
 /* Runs the bytes as an attribute, and what they are read as. */
@@ -147,6 +159,18 @@ void try_status(struct bench *bench, const char *text, size_t text_length, const
 
 /* Runs status texts, good and broken, the good ones whole and cut at every byte, beside sheets, good and broken. */
 void try_statuses(struct bench *bench);
+
+/* Runs the text, which is laid down, as a slot plan, after what it came to as a plan. */
+void try_as_slot_plan(struct bench *bench, const uint8_t *text, size_t text_length, size_t sheet_length, const struct trial *running);
+
+/* Runs the slot plan in which all steps of a text are in slot 0, or in slot 1 after a fork, after what it came to as a plan. */
+void try_in_slot(struct bench *bench, const uint8_t *text, size_t text_length, size_t sheet_length, const struct trial *running);
+
+/* Runs a slot plan, which comes to this number, and if it is not refused to this report. */
+void try_slot_plan(struct bench *bench, const char *text, size_t text_length, uint64_t number, const char *report);
+
+/* Runs slot plans, good and broken, the good ones whole and cut at every byte. */
+void try_slot_plans(struct bench *bench);
 
 /* Shows that stray accesses and wrong answers are caught: 0 if they all are. */
 int self_test(void);

@@ -9,6 +9,7 @@
 enum {
     MORE = 64,            /* How many bytes more room than enough is. */
     SHORTEST_SHEET = 212, /* The bytes of a sheet of zeros. */
+    SHORTEST_RESULT = 38, /* The bytes of a step's result, which alone is a slot plan's report after the exit of the only thread. */
     SHORTEST_LIST = 36,   /* The bytes of the line that every list ends with. */
     VALUE = sizeof(uint64_t)
 };
@@ -28,6 +29,8 @@ static const struct nature {
     size_t rooms;         /* Such an input is run with 0 to so many places; others, or all if that is 0, with room about what is written. */
 } functions[FUNCTIONS] = {
     [RUN_PLAN] = {"urrezkalu_run_plan", 1, SHORTEST_SHEET, URREZKALU_LONGEST_REPORT, URREZKALU_LONGEST_PLAN, 1296, URREZKALU_INVALID, 0},
+    [RUN_SLOT_PLAN] = {"urrezkalu_run_slot_plan", 1, SHORTEST_RESULT, URREZKALU_LONGEST_SLOT_REPORT, URREZKALU_LONGEST_SLOT_PLAN, 1552,
+                       URREZKALU_INVALID, 0},
     [READ_SHEET] = {"urrezkalu_read_sheet", VALUE, URREZKALU_SHEET_VALUES, URREZKALU_SHEET_VALUES, URREZKALU_LONGEST_SHEET, 16, URREZKALU_INVALID, 17},
     [WRITE_SHEET] = {"urrezkalu_write_sheet", 1, SHORTEST_SHEET, URREZKALU_LONGEST_SHEET, URREZKALU_SHEET_VALUES * VALUE, 0, URREZKALU_INVALID, 0},
     [READ_ATTRIBUTE] = {"urrezkalu_read_attribute", VALUE, URREZKALU_FILE_VALUES, URREZKALU_FILE_VALUES, URREZKALU_ATTRIBUTE_LENGTH, 0,
@@ -71,6 +74,8 @@ uint64_t call_library(const struct call *call)
 {
     const uint64_t *values = (const uint64_t *)call->input;
     switch (call->function) {
+    case RUN_SLOT_PLAN:
+        return urrezkalu_run_slot_plan(call->input, call->input_length, call->output, call->output_length);
     case READ_SHEET:
         return urrezkalu_read_sheet(call->input, call->input_length, (uint64_t *)call->output, call->output_length / VALUE);
     case WRITE_SHEET:
@@ -154,10 +159,10 @@ void set_up(struct bench *bench, caller *call)
 {
     *bench = (struct bench){.call = call};
     for (size_t place = 0; place < ON_THE_HEAP; place++) {
-        bench->input_pages[place] = map_guarded(URREZKALU_LONGEST_PLAN);
+        bench->input_pages[place] = map_guarded(URREZKALU_LONGEST_SLOT_PLAN);
         bench->sheet_pages[place] = map_guarded(URREZKALU_LONGEST_SHEET);
     }
-    bench->output_pages = map_guarded(URREZKALU_LONGEST_REPORT + MORE);
+    bench->output_pages = map_guarded(URREZKALU_LONGEST_SLOT_REPORT + MORE);
     for (size_t place = 0; place < PLACES; place++) {
         bench->patterns[place] = heap_block(bench->output_pages.size);
         for (size_t i = 0; i < bench->output_pages.size; i++) {
@@ -207,7 +212,7 @@ void lay_down(struct bench *bench, const uint8_t *input, size_t input_length)
 {
     bench->input = input;
     bench->input_length = input_length;
-    lay_into(bench->input_pages, URREZKALU_LONGEST_PLAN, input, input_length);
+    lay_into(bench->input_pages, URREZKALU_LONGEST_SLOT_PLAN, input, input_length);
 }
 
 void lay_beside(struct bench *bench, const uint8_t *sheet, size_t sheet_length)

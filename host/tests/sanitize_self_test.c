@@ -1,6 +1,7 @@
 /* Shows that sanitize.c bites: stray accesses and wrong answers, each in a child of its own, and how each has to end. */
 #define _DEFAULT_SOURCE
 #include "sanitize_self_test.h"
+#include "slot_plans.h"
 
 #include <fcntl.h>
 #include <signal.h>
@@ -10,6 +11,23 @@
 #include <unistd.h>
 
 static const char *const endings[] = {"a fault in memory", "an end by the sanitizers", "a fault that was counted", "no fault"};
+
+/* Slot plans: a family in which a child clears its ambient set, and whose other steps are refused; one that nobody is left of; one that is malformed in
+ * its third step; and that with a start that is not valid, and its beginning. */
+static void try_slot_inputs(struct bench *bench)
+{
+    static const char family[] = CASE_2 FORK("0") CALL("1", "8", Z) CALL("96", "10", Z) CALL("5", "10", Z) CALL("0", "30", "0000000000000001");
+    static const char report[] = TOOK("1") DONE REFUSED("22") REFUSED("3") REFUSED("22") AT("0", CASE_2)
+        AT("1", CASE_2_IDS SETS(NET_RAW, NET_RAW, NET_RAW, FULL, Z) FLAGS("00", "0"));
+    static const char broken[] = ZEROS FORK("0") EXIT("0") "slot=01\n";
+    static const char invalid[] = NO_USERS NO_GROUPS SETS(Z, Z, FULL, Z, Z) FLAGS("00", "0") FORK("0") EXIT("0") "slot=01\n";
+    static const uint64_t malformed_number = (uint64_t)URREZKALU_MALFORMED << 32 | 28;
+    try_slot_plan(bench, TEXT(family), 0, report);
+    try_slot_plan(bench, TEXT(ZEROS EXIT("0")), 0, DONE);
+    try_slot_plan(bench, TEXT(broken), malformed_number, NULL);
+    try_slot_plan(bench, TEXT(invalid), malformed_number, NULL);
+    try_slot_plan(bench, invalid, sizeof invalid - sizeof "slot=01\n", (uint64_t)URREZKALU_INVALID << 32, NULL);
+}
 
 /* A sheet, with the values in it changed in all ways; the same cut short; a plan. Attributes: none, of both versions, and an unreadable one. Texts in
  * names: a good one, and so its sets, and a broken one; and sets that are out of range. Status texts: one from which the sheet differs in two keys and
@@ -56,6 +74,7 @@ void try_inputs(struct bench *bench)
     try_status(bench, NULL, 0, plan, sheet_length, malformed_number | 1, NULL);
     try_status(bench, same, same_length, NULL, 0, malformed_number, NULL);
     try_status(bench, same, same_length, invalid, sizeof invalid - 1, (uint64_t)URREZKALU_INVALID << 32, NULL);
+    try_slot_inputs(bench);
 }
 
 /* What a child has to do: a mishap, or, if there is none, inputs with a fault in that function. */

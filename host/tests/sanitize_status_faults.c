@@ -115,18 +115,6 @@ static uint64_t listed(const struct call *call, uint8_t *list)
     return call_library(&wide);
 }
 
-/* Gives a list as the library does. */
-static uint64_t give(const struct call *call, const uint8_t *list, size_t length)
-{
-    if (length > call->output_length) {
-        return (uint64_t)URREZKALU_NO_ROOM << 32;
-    }
-    if (length != 0) {
-        memcpy(call->output, list, length);
-    }
-    return length;
-}
-
 uint64_t takes_invalid(const struct call *call)
 {
     static const char last[] = "not compared: securebits, group IDs\n";

@@ -1,5 +1,5 @@
-/* The texts of sanitize.c: run as plans, read as sheets, as texts in names and as status texts; and the values that are read of a sheet, written again
- * and laid beside. */
+/* The texts of sanitize.c: run as plans and as slot plans, read as sheets, as texts in names and as status texts; and the values that are read of a
+ * sheet, written again and laid beside. */
 #include "sanitize.h"
 
 #include <string.h>
@@ -101,7 +101,9 @@ void try_text(struct bench *bench, const char *name, size_t position, const uint
         expect(bench, naming.number == (uint64_t)URREZKALU_MALFORMED << 32, "a sheet's first line is read in names");
     }
     try_as_status(bench, text, text_length, text, sheet_length == 0 ? text_length : sheet_length);
+    try_as_slot_plan(bench, text, text_length, sheet_length, &running);
     if (sheet_length != 0) {
+        try_in_slot(bench, text, text_length, sheet_length, &running);
         try_sheet(bench, text, sheet_length, running.number);
     }
 }
