@@ -4,68 +4,16 @@
     texts.py PROGRAM
 
 Each case is a name, a text, what the program has to write, and why. Nothing is computed from a rule: lines, codes, values and
-sheets were worked out by hand from the paper and typed in beside their reason; the functions below only join and repeat text.
+sheets were worked out by hand from the paper and typed in beside their reason; the functions used only join and repeat text.
 
 Causes are those of "Why it was refused": a refusal 1 has its cause typed in, every other answer has cause 0.
 
 Line numbers: the sheet is lines 1 to 15; step k is lines 5k+11 to 5k+15 (step 1 is 16 to 20, step 256 is 1291 to 1295). A line is
 complete only with its newline, and a fault's line is one more than the complete correct lines before it.
 """
-import subprocess
 import sys
 
-KEYS = ["ruid", "euid", "suid", "fsuid", "rgid", "egid", "sgid", "fsgid", "permitted", "inheritable",
-        "effective", "bounding", "ambient", "securebits", "nnp"]
-BASE = dict(ruid="1000", euid="1000", suid="1000", fsuid="1000",
-            rgid="1000", egid="1000", sgid="1000", fsgid="1000",
-            permitted="0" * 16, inheritable="0" * 16, effective="0" * 16,
-            bounding="000001ffffffffff", ambient="0" * 16,
-            securebits="00", nnp="0")
-Z = "0" * 16
-NETRAW = "0100000200200000000000000000000000000000"
-cases = []
-
-
-def add(name, text, report, why):
-    if isinstance(text, str):
-        text = text.encode("latin-1")
-    if isinstance(report, str):
-        report = report.encode("ascii")
-    assert name not in [c[0] for c in cases], name
-    cases.append((name, text, report, why))
-
-
-def lines(**kw):
-    d = dict(BASE, **kw)
-    return [f"{k}={d[k]}\n" for k in KEYS]
-
-
-def S(**kw):
-    return "".join(lines(**kw))
-
-
-def step(call=10, a=Z, b=Z, c=Z, attr=""):
-    return f"call={call}\na={a}\nb={b}\nc={c}\nattr={attr}\n"
-
-
-def n70(line):
-    return f"code=70\nline={line}\n"
-
-
-N72 = "code=72\nline=0\n"
-
-
-def result(code, value, cause=0):
-    assert (code == 1) == (cause != 0), (code, value, cause)
-    return f"code={code}\nvalue={value:016x}\ncause={cause}\n"
-
-
-def rep(results, end):
-    return "".join(result(*r) for r in results) + end
-
-
-SHEET = S()
-LS = lines()
+from plan_texts import KEYS, LS, N72, NETRAW, S, SHEET, Z, add, n70, rep, run, step
 
 # ---- How a text may end
 add("empty", "", n70(1), "no byte at all; the paper says so: empty text gives 1")
@@ -215,6 +163,8 @@ add("step-attr-left-out", SHEET + step().replace("attr=\n", "") + step(), n70(20
     "the next step's call where attr must stand: line 20")
 add("step-call-left-out", SHEET + step().replace("call=10\n", ""), n70(16), "a where call must stand: line 16")
 add("step-operand-d", SHEET + step().replace("c=", "d="), n70(19), "`d` is no operand: line 19")
+add("step-slot-before-call", SHEET + "slot=0\n" + step(), n70(16), "a slot plan's step is none of a plan: line 16")
+add("second-step-slot-before-call", SHEET + step() + "slot=0\n" + step(), n70(21), "the same in the second step: 20 + 1")
 
 # ---- Group IDs in the sheet
 add("gid-zero", S(rgid="0", egid="0", sgid="0", fsgid="0"), S(rgid="0", egid="0", sgid="0", fsgid="0"),
@@ -384,6 +334,8 @@ add("call-20", SHEET + step(20), rep([(1, 0, 10)], SHEET), "setregid 0, 0 withou
 add("call-21", SHEET + step(21), rep([(1, 0, 10)], SHEET), "setresgid 0, 0, 0 without SETGID; 0 is none of the groups: 1, cause 10")
 add("call-22", SHEET + step(22), rep([(0, 1000)], SHEET), "setfsgid 0 answers 0 and the old group 1000, and changes nothing")
 add("call-23", SHEET + step(23), rep([(22, 0)], SHEET), "the first number past the last call; unknown call: 22")
+add("call-30", SHEET + step(30), rep([(22, 0)], SHEET), "fork is one of a slot plan; here an unknown call: 22")
+add("call-31", SHEET + step(31), rep([(22, 0)], SHEET), "exit is one of a slot plan; here an unknown call: 22")
 add("call-99", SHEET + step(99), rep([(22, 0)], SHEET), "the greatest readable; unknown call: 22")
 add("call-99-all-given", SHEET + step(99, "f" * 16, "f" * 16, "f" * 16, "f" * 48), rep([(22, 0)], SHEET),
     "readable; unknown call: 22")
@@ -630,18 +582,5 @@ add("longest-invalid", LONGEST.replace("fsuid=4294967294", "fsuid=4294967295"), 
 add("longest-invalid-group", LONGEST.replace("fsgid=4294967294", "fsgid=4294967295"), N72,
     "30,748 bytes with fsgid 4294967295: 72, line 0")
 
-
-def main():
-    program = sys.argv[1]
-    differ = []
-    for name, text, expected, why in cases:
-        found = subprocess.run([program], input=text, stdout=subprocess.PIPE, timeout=60)
-        if found.returncode != 0 or found.stdout != expected:
-            differ.append(name)
-            print(f"texts: {name} ({why})\n  expected {expected[:200]!r}\n  found    {found.stdout[:200]!r}, status {found.returncode}")
-    print(f"texts: {len(cases) - len(differ)} of {len(cases)} plan texts as expected")
-    return 1 if differ else 0
-
-
 if __name__ == "__main__":
-    sys.exit(main())
+    sys.exit(run("texts", "plan texts"))
