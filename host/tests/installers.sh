@@ -1,6 +1,6 @@
 #!/bin/sh
-# Runs the two examples that check plans, in C and in Rust, on the same arguments. Standard output, standard error and status of both have to be
-# what is expected here, to the byte, and so the same.
+# Runs the two examples that check plans and slot plans, in C and in Rust, on the same arguments. Standard output, standard error and status of both
+# have to be what is expected here, to the byte, and so the same.
 #
 #     installers.sh C-PROGRAM RUST-PROGRAM EXAMPLES
 #
@@ -26,21 +26,34 @@ words() {
     1-9) echo 'a locked flag of the securebits would be set or cleared' ;;
     1-10) echo 'an ID is not among those allowed' ;;
     1-11) echo "the launch falls short of the file's permitted set" ;;
-    22-0) echo 'number, operands and attribute make no call' ;;
+    3-0) echo 'the slot is not in use' ;;
+    11-0) echo 'no slot is free' ;;
+    22-0) echo "$no_call" ;;
     60-0) echo 'the attribute cannot be read' ;;
     *) echo "no words for $1" ;;
     esac
 }
 
-# The name and the report of an accepted plan, and why the steps are refused that are: the first step begins at line 16 of a plan, and each
-# has five lines.
+# What plans and slot plans differ in: the option, how many lines a step has, and what a step is that is out of range.
+plans() {
+    option=
+    step_lines=5
+    no_call='number, operands and attribute make no call'
+}
+slot_plans() {
+    option=--slots
+    step_lines=6
+    no_call='slot, number, operands and attribute make no call'
+}
+
+# The name and the report of an accepted plan, and why the steps are refused that are: the first step begins at line 16 of a plan.
 accepts() {
     prints "$1: accepted"
     prints_file "$2"
     step=0
     for result in $(sed -n 's/^code=//p;s/^cause=/-/p' "$2" | paste -d '' - -); do
         step=$((step + 1))
-        test "$result" = 0-0 || says "$1:$((5 * step + 11)): step $step is refused: $(words "$result")"
+        test "$result" = 0-0 || says "$1:$((16 + (step - 1) * step_lines)): step $step is refused: $(words "$result")"
     done
 }
 
@@ -53,21 +66,27 @@ expect_example() {
     *) accepts "$1" "$report" ;;
     esac
 }
-accepted=0
-for plan in "$examples"/*.plan "$examples"/rules/*.plan; do
-    expect_example "$plan"
-    if test -s "$work/expected/stdout"; then
-        accepted=$((accepted + 1))
-        check "$plan" 0 "$plan"
-    else
-        check "$plan" 1 "$plan"
-    fi
-done
-test "$accepted" -ge 2
-for plan in "$examples"/*.plan; do
-    expect_example "$plan"
-done
-check 'all examples at once' 1 "$examples"/*.plan
+check_examples() {
+    accepted=0
+    for plan; do
+        expect_example "$plan"
+        if test -s "$work/expected/stdout"; then
+            accepted=$((accepted + 1))
+            check "$plan" 0 $option "$plan"
+        else
+            check "$plan" 1 $option "$plan"
+        fi
+    done
+    test "$accepted" -ge 2
+    for plan; do
+        expect_example "$plan"
+    done
+    check 'all examples at once' 1 $option "$@"
+}
+slot_plans
+check_examples "$examples"/slots/*.plan
+plans
+check_examples "$examples"/*.plan "$examples"/rules/*.plan
 
 # Words and names, typed in.
 cp "$examples/case-2.plan" good.plan
@@ -77,8 +96,10 @@ says 'broken.plan:24: malformed plan: this line is the first that is missing, in
 check 'a malformed plan' 1 broken.plan
 says 'invalid-sheet.plan: the credentials at the start are not valid'
 check 'a start that is not valid' 1 invalid-sheet.plan
-says 'usage: check_plans PLAN..'
+says 'usage: check_plans [--slots] PLAN..'
 check 'no arguments' 2
+says 'usage: check_plans [--slots] PLAN..'
+check 'no slot plans' 2 --slots
 cp "$examples/burner-refused.plan" "$examples/burner-refused.report" .
 prints 'burner-refused.plan: accepted'
 prints_file burner-refused.report
@@ -195,6 +216,80 @@ says "$odd: cannot be read: No such file or directory"
 check 'an odd name that is missing' 2 "$odd"
 says '--help: cannot be read: No such file or directory'
 check 'a name like an option' 2 --help
+
+# Slot plans: words and lines, typed in. A form is not taken for the other, and the option comes first.
+cp "$examples/slots/free-slot.plan" slots.plan
+cp "$examples/slots/free-slot.report" slots.report
+prints 'slots.plan: accepted'
+prints_file slots.report
+says 'slots.plan:16: step 1 is refused: the slot is not in use'
+says 'slots.plan:22: step 2 is refused: the slot is not in use'
+for step in 3 4; do
+    says "slots.plan:$((6 * step + 10)): step $step is refused: slot, number, operands and attribute make no call"
+done
+for step in 5 6 7 8 9 10; do
+    says "slots.plan:$((6 * step + 10)): step $step is refused: the slot is not in use"
+done
+for step in 11 12 13 14 15 16 17 18 19; do
+    says "slots.plan:$((6 * step + 10)): step $step is refused: slot, number, operands and attribute make no call"
+done
+says 'slots.plan:142: step 22 is refused: the attribute cannot be read'
+says 'slots.plan:148: step 23 is refused: an ID is not among those allowed'
+says 'slots.plan:154: step 24 is refused: slot, number, operands and attribute make no call'
+says 'slots.plan:178: step 28 is refused: the slot is not in use'
+says 'slots.plan:184: step 29 is refused: the slot is not in use'
+check 'refused steps of a slot plan' 0 --slots slots.plan
+says "good.plan:16: $fault"
+check 'a plan for a slot plan' 1 --slots good.plan
+says "slots.plan:16: $fault"
+check 'a slot plan for a plan' 1 slots.plan
+accepts good.plan good.report
+says '--slots: cannot be read: No such file or directory'
+says "slots.plan:16: $fault"
+check 'the option after a name' 2 good.plan --slots slots.plan
+says '--slots: cannot be read: No such file or directory'
+check 'the option twice' 2 --slots --slots
+
+# The longest slot plan, 32796 bytes; and the longest report, 37911 bytes, of 95 forks and 161 steps that are refused with 22.
+slot_plans
+for _ in $(seq 256); do
+    printf 'slot=99\ncall=99\na=%s\nb=%s\nc=%s\nattr=%s%s%s\n' $ones $ones $ones $ones $ones $ones
+done >slot-steps
+cat sheet slot-steps >longest-slots.plan
+{
+    cat results
+    echo slot=0
+    cat sheet
+} >longest-slots.report
+test "$(wc -c <longest-slots.plan)" -eq 32796
+accepts longest-slots.plan longest-slots.report
+check 'the longest slot plan' 0 --slots longest-slots.plan
+{
+    cat longest-slots.plan
+    echo
+} >longer-slots.plan
+says "longer-slots.plan:1552: $fault"
+check 'one byte more than the longest slot plan' 1 --slots longer-slots.plan
+{
+    cat sheet
+    for slot in $(seq 0 94); do
+        printf 'slot=%d\ncall=30\na=%016x\nb=%016x\nc=%016x\nattr=\n' "$slot" 0 0 0
+    done
+    head -n $((161 * 6)) slot-steps
+} >full.plan
+{
+    for slot in $(seq 95); do
+        printf 'code=0\nvalue=%016x\ncause=0\n' "$slot"
+    done
+    head -n $((161 * 3)) results
+    for slot in $(seq 0 95); do
+        echo "slot=$slot"
+        cat sheet
+    done
+} >full.report
+test "$(wc -c <full.report)" -eq 37911
+accepts full.plan full.report
+check 'the longest report' 0 --slots full.plan
 
 check_unwritable check_plans good.plan
 finish

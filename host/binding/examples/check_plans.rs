@@ -1,13 +1,13 @@
 //! An installer's check: plans are run before they are installed.
 //!
 //! ```text
-//! check_plans PLAN..
+//! check_plans [--slots] PLAN..
 //! ```
 //!
-//! For a plan that is accepted, its name and its report go to standard output. Why another is refused goes to standard error, with file and
-//! line in the form that editors understand; and so does, after the report of one that is accepted, why a step of it is refused, with the line
-//! where the step begins. Every plan is looked at, whatever the ones before it came to. The status is 0 if all are accepted, 1 if one is
-//! refused, and 2 if one cannot be read, if the output cannot be written, or if no plan is named.
+//! With --slots the plans are slot plans. For a plan that is accepted, its name and its report go to standard output. Why another is refused goes
+//! to standard error, with file and line in the form that editors understand; and so does, after the report of one that is accepted, why a step of
+//! it is refused, with the line where the step begins. Every plan is looked at, whatever the ones before it came to. The status is 0 if all are
+//! accepted, 1 if one is refused, and 2 if one cannot be read, if the output cannot be written, or if no plan is named.
 
 use std::env;
 use std::ffi::{OsStr, OsString};
@@ -16,11 +16,23 @@ use std::io::{self, Read, Write};
 use std::os::unix::ffi::OsStrExt;
 use std::process::ExitCode;
 
-use urrezkalu::{results, run_plan, Outcome, StepResult, LONGEST_PLAN, LONGEST_REPORT};
+use urrezkalu::{results, run_plan, run_slot_plan, Outcome, StepResult, LONGEST_SLOT_PLAN, LONGEST_SLOT_REPORT};
 
-/// How many lines of a plan a sheet and a step have.
+/// How many lines of a plan a sheet has.
 const SHEET_LINES: usize = 15;
-const STEP_LINES: usize = 5;
+
+/// What plans and slot plans differ in.
+struct Form {
+    run: fn(&[u8], &mut [u8]) -> Outcome,
+    /// How many lines a step has.
+    step_lines: usize,
+    /// What a step is that is out of range.
+    no_call: &'static str,
+}
+
+const PLANS: Form = Form { run: run_plan, step_lines: 5, no_call: "number, operands and attribute make no call" };
+const SLOT_PLANS: Form =
+    Form { run: run_slot_plan, step_lines: 6, no_call: "slot, number, operands and attribute make no call" };
 
 /// What has been found, and the exit status that says so. The greatest of several counts.
 #[derive(Clone, Copy, PartialEq, Eq, PartialOrd, Ord)]
@@ -30,10 +42,10 @@ enum Status {
     Failed = 2,
 }
 
-/// The file's first bytes. One byte more than the longest plan has is enough: what stands after it decides nothing.
+/// The file's first bytes. One byte more than the longest plan of either form has is enough: what stands after it decides nothing.
 fn read_text(name: &OsStr) -> io::Result<Vec<u8>> {
     let mut text = Vec::new();
-    File::open(name)?.take(LONGEST_PLAN as u64 + 1).read_to_end(&mut text)?;
+    File::open(name)?.take(LONGEST_SLOT_PLAN as u64 + 1).read_to_end(&mut text)?;
     Ok(text)
 }
 
@@ -61,21 +73,24 @@ fn write_report(name: &OsStr, report: &[u8]) -> io::Result<()> {
 }
 
 /// Says of each step in the report that is refused why, and on which line of the plan it begins.
-fn tell_refused_steps(name: &OsStr, report: &[u8]) {
+fn tell_refused_steps(form: &Form, name: &OsStr, report: &[u8]) {
     for (at, result) in results(report).enumerate() {
-        if !matches!(result, StepResult::Done { .. }) {
-            let line = SHEET_LINES + STEP_LINES * at + 1;
-            complain(name, &format!(":{line}: step {} is {result}", at + 1));
-        }
+        let words = match result {
+            StepResult::Done { .. } => continue,
+            StepResult::InvalidArgument => format!("refused: {}", form.no_call),
+            refusal => refusal.to_string(),
+        };
+        let line = SHEET_LINES + form.step_lines * at + 1;
+        complain(name, &format!(":{line}: step {} is {words}", at + 1));
     }
 }
 
-fn check_text(name: &OsStr, text: &[u8]) -> Status {
-    let mut report = [0; LONGEST_REPORT];
-    match run_plan(text, &mut report) {
+fn check_text(form: &Form, name: &OsStr, text: &[u8]) -> Status {
+    let mut report = [0; LONGEST_SLOT_REPORT];
+    match (form.run)(text, &mut report) {
         Outcome::Report { length } => match write_report(name, &report[..length]) {
             Ok(()) => {
-                tell_refused_steps(name, &report[..length]);
+                tell_refused_steps(form, name, &report[..length]);
                 Status::Accepted
             }
             Err(error) => {
@@ -98,9 +113,9 @@ fn check_text(name: &OsStr, text: &[u8]) -> Status {
     }
 }
 
-fn check_file(name: &OsStr) -> Status {
+fn check_file(form: &Form, name: &OsStr) -> Status {
     match read_text(name) {
-        Ok(text) => check_text(name, &text),
+        Ok(text) => check_text(form, name, &text),
         Err(error) => {
             complain(name, &format!(": cannot be read: {}", reason(&error)));
             Status::Failed
@@ -109,11 +124,14 @@ fn check_file(name: &OsStr) -> Status {
 }
 
 fn main() -> ExitCode {
-    let names: Vec<OsString> = env::args_os().skip(1).collect();
+    let arguments: Vec<OsString> = env::args_os().skip(1).collect();
+    let (form, names) = match &arguments[..] {
+        [option, names @ ..] if option == "--slots" => (SLOT_PLANS, names),
+        names => (PLANS, names),
+    };
     if names.is_empty() {
-        complain(OsStr::new("usage"), ": check_plans PLAN..");
-        return ExitCode::from(Status::Failed as u8);
+        complain(OsStr::new("usage"), ": check_plans [--slots] PLAN..");
     }
-    let worst = names.iter().map(|name| check_file(name)).max().unwrap_or(Status::Failed);
+    let worst = names.iter().map(|name| check_file(&form, name)).max().unwrap_or(Status::Failed);
     ExitCode::from(worst as u8)
 }
