@@ -141,6 +141,10 @@ ROOT = S(**ROOTKW)
 add("two-users", ROOT + fork(0) + at(1, 15, a="00000000000003e8") + at(0, 15, a="00000000000003e9") + at(1, 15),
     rep([(0, 1), (0, 0), (0, 0), (1, 0, 10)], end((0, S(ruid="1001", euid="1001", suid="1001", fsuid="1001")), (1, SHEET))),
     "each becomes a user of its own, and rule 1 clears its P and E; then 0 is no ID of slot 1")
+add("slot-again-with-other-credentials", ROOT + fork(0) + at(1, 15, a="00000000000003e8") + leave(1) + fork(0),
+    rep([(0, 1), (0, 0), (0, 0), (0, 1)], end((0, ROOT), (1, ROOT))), "what user 1000 left in slot 1 shows nowhere")
+add("slot-0-again-with-other-credentials", ROOT + fork(0) + at(1, 15, a="00000000000003e8") + leave(0) + fork(1),
+    rep([(0, 1), (0, 0), (0, 0), (0, 0)], end((0, SHEET), (1, SHEET))), "nor what the sheet gave slot 0")
 
 # ---- All 96
 CHAIN = "".join(fork(slot) for slot in range(95))
