@@ -1,5 +1,5 @@
-/* What slot_plans.c, slot_tables.c and sanitize_slot_plans.c share: slot plans with their reports, and edits that make one malformed. Typed in from the
- * paper. */
+/* What slot_plans.c, slot_tables.c and those of sanitize.c share: the lines of slot plans and reports, slot plans with their reports, and edits that make
+ * one malformed. Typed in from the paper. */
 #ifndef SLOT_PLANS_H
 #define SLOT_PLANS_H
 
