@@ -1,21 +1,15 @@
+-- `slots::decision::unless_refused` meets its contract. Assumes nothing.
 use Rattle.threads.specs.Step.{unlessRefused}
 use borrow.Author.Needs.{needs}
 use Rattle.slots.proofs.decision.unless_refused.Statement.{statement}
 use Rattle.slots.proofs.decision.unless_refused.Tie as tie
-use Rattle.slots.proofs.decision.unless_refused.Reads as reads
-use Rattle.slots.proofs.decision.unless_refused.Lts as lts
-use Rattle.credentials.proofs.is_valid.Reads as is-valid-reads
-use Rattle.slots.proofs.decision.uses_none.Reads as uses-none-reads
 
--- src/decision.rt:35:8
 is-valid-requires : tie.Need-is-valid-requires
 is-valid-requires c κs = search needs
 
--- src/decision.rt:36:12
 uses-none-requires : tie.Need-uses-none-requires
 uses-none-requires c κs = search needs
 
--- src/decision.rt:37:13
 returns : tie.Need-returns
 unfolding unlessRefused
 returns c =
@@ -26,7 +20,6 @@ returns c =
       ← (c .before .before .before .is-valid .ensures),
     )
 
--- src/decision.rt:39:9
 returns-2 : tie.Need-returns-2
 unfolding unlessRefused
 returns-2 c =
@@ -37,7 +30,6 @@ returns-2 c =
       ← (c .before .before .before .is-valid .ensures),
     )
 
--- src/decision.rt:24:1
 returns-3 : tie.Need-returns-3
 unfolding unlessRefused
 returns-3 c =

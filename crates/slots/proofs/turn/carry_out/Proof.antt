@@ -1,48 +1,33 @@
+-- `slots::turn::carry_out` meets its contract. Assumes nothing.
 use Rattle.slots.specs.Turn.{turnBy}
 use borrow.Author.Needs.{needs}
 use Rattle.slots.proofs.turn.carry_out.Statement.{statement}
 use Rattle.slots.proofs.turn.carry_out.Tie as tie
-use Rattle.slots.proofs.turn.carry_out.Reads as reads
-use Rattle.slots.proofs.turn.carry_out.Lts as lts
-use Rattle.answers.proofs.after.Reads as after-reads
-use Rattle.answers.proofs.cause.Reads as cause-reads
-use Rattle.answers.proofs.code.Reads as code-reads
-use Rattle.answers.proofs.value.Reads as value-reads
-use Rattle.slots.proofs.turn.fork.Reads as fork-reads
 
--- src/turn.rt:71:28
 enum-known-decision : tie.Need-enum-known-decision
 enum-known-decision c = search needs
 
--- src/turn.rt:72:19
 code-requires : tie.Need-code-requires
 code-requires c κs = search needs
 
--- src/turn.rt:73:20
 cause-requires : tie.Need-cause-requires
 cause-requires c κs = search needs
 
--- src/turn.rt:75:20
 value-requires : tie.Need-value-requires
 value-requires c κs = search needs
 
--- src/turn.rt:77:26
 after-requires : tie.Need-after-requires
 after-requires c κs = search needs
 
--- src/turn.rt:79:28
 enum-told : tie.Need-enum-told
 enum-told c = search needs
 
--- src/turn.rt:79:28
 fork-requires : tie.Need-fork-requires
 fork-requires c κs = search needs
 
--- src/turn.rt:80:28
 enum-told-2 : tie.Need-enum-told-2
 enum-told-2 c = search needs
 
--- src/turn.rt:66:1
 returns : tie.Need-returns
 unfolding turnBy
 returns c =
@@ -54,7 +39,6 @@ returns c =
       c .before .before .before .before .before .decision .given .1,
     )
 
--- src/turn.rt:66:1
 returns-2 : tie.Need-returns-2
 unfolding turnBy
 returns-2 c =
@@ -63,12 +47,9 @@ returns-2 c =
       c .before .enum-told .given .1,
     )
 
--- src/turn.rt:66:1
 returns-3 : tie.Need-returns-3
 unfolding turnBy
-returns-3 c =
-    simp
-    (c .enum-told2 .given .1)
+returns-3 c = simp (c .enum-told2 .given .1)
 
 pub carry-out-spec : {M : Type 1} → statement M
 carry-out-spec =

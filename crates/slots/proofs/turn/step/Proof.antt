@@ -1,3 +1,4 @@
+-- `slots::turn::step` meets its contract. Assumes nothing.
 use Prim.Native.Nat.{ℕ, _<_}
 use mathlib.Core.Path.{_≡_, sym, ap, _∙_, subst}
 use native.Mathlib.Omega.{arith}
@@ -8,24 +9,16 @@ use Rattle.slots.proofs.Turns.{turns-stored}
 use borrow.Author.Needs.{needs}
 use Rattle.slots.proofs.turn.step.Statement.{statement}
 use Rattle.slots.proofs.turn.step.Tie as tie
-use Rattle.slots.proofs.turn.step.Reads as reads
-use Rattle.slots.proofs.turn.step.Lts as lts
-use Rattle.slots.proofs.turn.place.Reads as place-reads
-use Rattle.slots.proofs.turn.take_turn.Reads as take-turn-reads
 
--- src/turn.rt:139:9
 place-requires : tie.Need-place-requires
 place-requires c κs = search needs
 
--- src/turn.rt:140:16
 mul-held : tie.Need-mul-held
 mul-held c = search needs
 
--- src/turn.rt:140:16
 element-copy-out-held : tie.Need-element-copy-out-held
 element-copy-out-held c = search needs
 
--- src/turn.rt:142:9
 take-turn-requires : tie.Need-take-turn-requires
 take-turn-requires c κs = search needs
 
@@ -33,19 +26,15 @@ take-turn-requires c κs = search needs
 stored-within : (c : tie.After-stored) → c .before .take-turn .result .to < 96
 stored-within c = subst (λ (t : Turn). t .to < 96) (sym (c .before .take-turn .ensures)) (turns-stored .within _ _ _ _)
 
--- src/turn.rt:146:5
 mul-stored : tie.Need-mul-stored
 mul-stored c = record { fits = omega (arith, stored-within c) }
 
--- src/turn.rt:146:5
 element-set-from-stored : tie.Need-element-set-from-stored
 element-set-from-stored c = stored-within c
 
--- src/turn.rt:147:5
 element-write-next : tie.Need-element-write-next
 element-write-next c = stored-within c
 
--- src/turn.rt:128:1
 returns : tie.Need-returns
 returns c =
     let a = c .before .before .before .before .before .before .args in
