@@ -11,6 +11,9 @@ OPTIONS =
 # How many proofs and edits run at a time: rt waits for the slowest of a batch, so two more than there are cores keep these busy.
 export RT_JOBS ?= 4
 
+# The program that runs PLAN: slot plans have one of their own.
+PROGRAM = $(if $(findstring slots/,$(PLAN)),urrezkalu_slots,urrezkalu)
+
 CARGO_RUN := cargo run --quiet --offline --release --manifest-path host/Cargo.toml
 
 # The gate: the layout, every proof from nothing, every must-fail edit, every program's output; then the tests that are not Rattle.
@@ -22,12 +25,12 @@ test:
 	host/tests/run; \
 	tail -n 1 "$$log"
 
-# Proves and builds the program, which takes minutes where nothing is proved yet and seconds after that, and runs it on a plan.
+# Proves and builds the program, which takes minutes where nothing is proved yet and seconds after that, and runs it on a plan or a slot plan.
 run:
 	@test -r "$(PLAN)" || { echo 'make run PLAN=examples/NAME.plan: runs a plan and prints its report' >&2; exit 2; }
 	@echo 'make run: proving and building the program first' >&2
-	@rt check urrezkalu >&2
-	@target/bin/urrezkalu <"$(PLAN)"
+	@rt check $(PROGRAM) >&2
+	@target/bin/$(PROGRAM) <"$(PLAN)"
 
 # Proves the library and writes target/staticlib/libcapi.a, which host/binding and C programs link.
 library:
