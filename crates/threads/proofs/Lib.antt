@@ -1,4 +1,9 @@
+pub mod Tests
 pub mod Free
 pub mod StepCases
+pub mod WhichAnswer
+pub mod WhatChanges
+pub mod Depending
+pub mod Leftovers
 pub mod Slots
 pub mod Lives

@@ -21,7 +21,8 @@ use Rattle.threads.specs.Step.{SlotStep, FORK, EXIT, refused, answered, 
 use Rattle.threads.specs.Slots.{Sized}
 use Rattle.threads.specs.Lives.{Life, begins, lengthened, forkInto, callIn, cameBack, lived, lifeOf, lifeFrom, DemandedPerSlot}
 use Rattle.threads.proofs.StepCases.{NoCall, asked, step-cases}
-use Rattle.threads.proofs.Slots.{equal-or-not, different, sized}
+use Rattle.threads.proofs.Tests.{equal-or-not, different}
+use Rattle.threads.proofs.WhatChanges.{sized}
 
 -- ---- what is carried from step to step, of a slot in use: its start was valid, its results are the rules', and it holds what they leave
 

@@ -60,6 +60,11 @@ pub record Same (one other : Threads) (slot : ℕ) : Type 0 where
   pub credentials : held one slot ≡ held other slot
   pub used : inUse one slot ≡ inUse other slot
 
+-- two tables have the same slots in use, and the same in each of them
+pub record SameInUse (one other : Threads) : Type 0 where
+  pub used : (i : ℕ) → inUse one i ≡ inUse other i
+  pub credentials : (i : ℕ) → inUse one i ≡ true → held one i ≡ held other i
+
 -- two results are the same answer: code, value and cause
 pub record SameAnswer (one other : SlotResult) : Type 0 where
   pub code : one .code ≡ other .code
@@ -151,3 +156,6 @@ pub record Slots : Type 0 where
   -- which depend besides on which slots are in use, and on nothing else
   pub fork-room : (one other : Threads) (s : SlotStep) → Same one other (s .slot) → ((i : ℕ) → inUse one i ≡ inUse other i)
       → SameAnswer (stepIn one s) (stepIn other s)
+  -- what a free slot still holds shows nowhere: of two tables that differ in that alone the answers are the same, and the tables after it differ in that alone
+  pub leftovers : (one other : Threads) (s : SlotStep) → Sized one → Sized other → SameInUse one other
+      → SameAnswer (stepIn one s) (stepIn other s) × SameInUse (stepIn one s .table) (stepIn other s .table)
