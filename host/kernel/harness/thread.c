@@ -8,6 +8,7 @@
 #include <stdlib.h>
 #include <string.h>
 #include <sys/ptrace.h>
+#include <sys/socket.h>
 #include <sys/syscall.h>
 #include <unistd.h>
 
@@ -15,8 +16,7 @@
 
 /* The calls by the plan's numbers. */
 enum {
-    EXECVE = 1,
-    CAPSET,
+    CAPSET = 2,
     BOUNDING_DROP,
     BOUNDING_READ,
     AMBIENT_RAISE,
@@ -121,11 +121,37 @@ static long launch(const struct order *order)
     return returned;
 }
 
+void keep_channel(int channel)
+{
+    int aside = fcntl(channel, F_DUPFD, CHANNEL + 1);
+    close(channel);
+    if (dup2(aside, CHANNEL) == -1) {
+        give_up("the channel");
+    }
+    close(aside);
+}
+
+/* The child goes on with what it is told on its own channel, and the parent does not keep that. */
+static long fork_child(const struct order *order, int channel)
+{
+    long returned = syscall(SYS_fork, order->operands[0], order->operands[1], order->operands[2]);
+    int error = errno;
+    if (returned == 0) {
+        keep_channel(channel);
+    } else {
+        close(channel);
+    }
+    errno = error;
+    return returned;
+}
+
 /* Operands that a call does not use stand in the registers after those that it does: the kernel sees them there. */
-static long perform(const struct order *order)
+static long perform(const struct order *order, int channel)
 {
     uint64_t a = order->operands[0], b = order->operands[1], c = order->operands[2];
     switch (order->call) {
+    case LOOK:
+        return 0;
     case EXECVE:
         return launch(order);
     case CAPSET:
@@ -170,6 +196,10 @@ static long perform(const struct order *order)
         return syscall(SYS_setresgid, a, b, c);
     case SETFSGID:
         return syscall(SYS_setfsgid, a, b, c);
+    case FORK:
+        return fork_child(order, channel);
+    case EXIT:
+        return syscall(SYS_exit_group, a, b, c);
     default:
         errno = ENOSYS;
         return -1;
@@ -178,25 +208,45 @@ static long perform(const struct order *order)
 
 static void tell(long returned)
 {
-    struct result result = {0};
+    struct result result = {.self = getpid(), .parent = getppid()};
     if (returned == -1) {
         result.error = (uint32_t)errno;
     } else {
         result.value = (uint64_t)returned;
     }
     read_state(&result.after, &result.status);
-    if (write(RESULTS, &result, sizeof result) != sizeof result) {
+    if (write(CHANNEL, &result, sizeof result) != sizeof result) {
         _exit(1);
     }
+}
+
+/* Takes the next order, and where it is to fork the descriptor that came along. Says whether there is one. */
+static int take_order(struct order *order, int *channel)
+{
+    struct iovec bytes = {order, sizeof *order};
+    union {
+        struct cmsghdr header;
+        char room[CMSG_SPACE(sizeof *channel)];
+    } rights;
+    struct msghdr message = {.msg_iov = &bytes, .msg_iovlen = 1, .msg_control = &rights, .msg_controllen = sizeof rights};
+    if (recvmsg(CHANNEL, &message, 0) != sizeof *order) {
+        return 0;
+    }
+    const struct cmsghdr *passed = CMSG_FIRSTHDR(&message);
+    if (passed != NULL) {
+        memcpy(channel, CMSG_DATA(passed), sizeof *channel);
+    }
+    return 1;
 }
 
 /* The first result is that of the start, or of the launch that this is the new image of. The end of the orders ends the thread. */
 _Noreturn void obey(void)
 {
     struct order order;
+    int channel = -1;
     tell(0);
-    while (read(ORDERS, &order, sizeof order) == sizeof order) {
-        tell(perform(&order));
+    while (take_order(&order, &channel)) {
+        tell(perform(&order, channel));
     }
     _exit(0);
 }
