@@ -1,7 +1,7 @@
 //! Lays what the kernel did beside what the proved library says, step by step, and names every difference.
 
 use crate::calls::perform;
-use crate::credentials::{Credentials, Outcome, Thread, SECBITS_OF_THE_PAPER};
+use crate::credentials::{Credentials, Outcome, Thread};
 use crate::departures::Switches;
 use crate::harness::{Observation, Seen};
 use crate::prediction;
@@ -29,18 +29,24 @@ pub struct Comparison {
     pub listing: u64,
 }
 
-/// What is wrong: the run fails. The outcomes are those that should be the same, and so are the lists.
+/// What is wrong: the run fails. The outcomes, in words, are those that should be the same, and so are the lists.
 #[derive(Debug)]
 pub struct Fault {
     pub what: &'static str,
     pub place: Option<usize>,
-    pub outcomes: Vec<(&'static str, Outcome)>,
+    pub outcomes: Vec<(String, String)>,
     pub lists: Vec<(&'static str, String)>,
 }
 
 impl Fault {
-    fn new(what: &'static str, outcomes: Vec<(&'static str, Outcome)>) -> Fault {
+    /// Says what is wrong, and what shows it.
+    pub fn new(what: &'static str, outcomes: Vec<(String, String)>) -> Fault {
         Fault { what, place: None, outcomes, lists: Vec::new() }
+    }
+
+    fn of_thread(what: &'static str, outcomes: &[(&str, Option<Outcome>)]) -> Fault {
+        let said = outcomes.iter().filter_map(|(name, outcome)| Some((name, outcome.as_ref()?)));
+        Fault::new(what, said.map(|(name, outcome)| (name.to_string(), format!("{outcome:x?}"))).collect())
     }
 }
 
@@ -49,7 +55,7 @@ impl Fault {
 pub fn compare(known: Switches, plan: &Plan, seen: &Observation) -> Result<Comparison, Fault> {
     let Seen { outcome: start, status } = &seen.start;
     if start.after != plan.start {
-        return Err(Fault::new("the thread could not be put into the start", vec![("kernel", *start)]));
+        return Err(Fault::of_thread("the thread could not be put into the start", &[("kernel", Some(*start))]));
     }
     lists(&plan.start.credentials, status, LAST_LINE)?;
     let mut before = &start.after;
@@ -66,8 +72,8 @@ pub fn compare(known: Switches, plan: &Plan, seen: &Observation) -> Result<Compa
     Ok(comparison)
 }
 
-// The library's list of the status file beside the credentials has to be this one.
-fn lists(predicted: &Credentials, status: &[u8], expected: &str) -> Result<(), Fault> {
+/// The library's list of the status file beside the credentials has to be this one.
+pub fn lists(predicted: &Credentials, status: &[u8], expected: &str) -> Result<(), Fault> {
     let list = status::list(predicted, status);
     if list == expected {
         return Ok(());
@@ -87,11 +93,10 @@ fn lists(predicted: &Credentials, status: &[u8], expected: &str) -> Result<(), F
 // verdict.
 fn compare_step(known: Switches, before: &Thread, step: &Step, seen: &Seen) -> Result<(Verdict, bool), Fault> {
     let Seen { outcome: observed, status } = seen;
-    let has_sheet = before.credentials.securebits <= SECBITS_OF_THE_PAPER;
-    let library = has_sheet.then(|| prediction::outcome(before, step));
+    let library = before.credentials.has_sheet().then(|| prediction::outcome(before, step));
     let fault = |what, model| {
-        let said = library.map(|outcome| ("library", outcome));
-        Err(Fault::new(what, said.into_iter().chain([("kernel", *observed), ("model", model)]).collect()))
+        let outcomes = [("library", library), ("kernel", Some(*observed)), ("model", Some(model))];
+        Err(Fault::of_thread(what, &outcomes))
     };
     let kernel = perform(known, before, step);
     if kernel != *observed {

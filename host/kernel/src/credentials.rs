@@ -75,7 +75,12 @@ impl Credentials {
         self.securebits & bits != 0
     }
 
-    /// The sheet. Securebits above ff have no sheet.
+    /// Whether a sheet can say them: securebits above ff have none.
+    pub fn has_sheet(&self) -> bool {
+        self.securebits <= SECBITS_OF_THE_PAPER
+    }
+
+    /// The sheet, where there is one.
     pub fn sheet(&self) -> String {
         let mut text = String::new();
         for (keys, ids) in [(UID_KEYS, self.uids), (GID_KEYS, self.gids)] {

@@ -1,9 +1,10 @@
 //! Plans that are run whatever the seed: the paper's cases ("On the bench" and "Ambient lost too easily"), points that it leaves to the reader
 //! (docs/DECISIONS.md, 23), every value of the securebits, every choice of IDs for the ID calls, every way that a file's owner and group can count, and
-//! the example plans.
+//! the examples.
 
 use crate::attribute::version_2;
 use crate::credentials::*;
+use crate::family::{self, SlotPlan};
 use crate::step::*;
 use std::path::Path;
 use std::{fs, io};
@@ -126,7 +127,7 @@ pub fn id_calls() -> Vec<Plan> {
         for effective in [1 << capability, FULL & !(1 << capability)] {
             for step in id_steps(calls, apart) {
                 let Step { call, a, b, c, .. } = step;
-                let name = format!("{} {a} {b} {c}, effective {effective:x}", NAMES[call as usize]);
+                let name = format!("{} {a} {b} {c}, effective {effective:x}", call_name(call));
                 plans.push(plan(&name, Credentials { effective, ..start }, vec![step]));
             }
         }
@@ -197,24 +198,40 @@ pub fn groups() -> Vec<Plan> {
     plans
 }
 
-/// The example plans in a directory and the directories in it, and how many of its plans are none: broken texts, and starts that are not valid.
-pub fn examples(directory: &Path) -> io::Result<(Vec<Plan>, usize)> {
-    let (mut plans, mut none) = (Vec::new(), 0);
-    let mut entries = fs::read_dir(directory)?.map(|entry| Ok(entry?.path())).collect::<io::Result<Vec<_>>>()?;
-    entries.sort();
-    for path in entries {
-        if path.is_dir() {
-            let (more, none_there) = examples(&path)?;
-            plans.extend(more);
-            none += none_there;
-        } else if path.extension().is_some_and(|extension| extension == "plan") {
-            match parse(&fs::read_to_string(&path)?) {
-                Some((start, steps)) => plans.push(plan(&path.display().to_string(), start, steps)),
-                None => none += 1,
+/// The examples of a directory and the directories in it.
+#[derive(Default)]
+pub struct Examples {
+    pub plans: Vec<Plan>,
+    pub slot_plans: Vec<SlotPlan>,
+    /// How many are neither: broken texts, and starts that are not valid.
+    pub none: usize,
+}
+
+impl Examples {
+    /// Reads the files whose names end with `.plan`. A text that is a plan and a slot plan is a plan.
+    pub fn read(&mut self, directory: &Path) -> io::Result<()> {
+        let mut entries = fs::read_dir(directory)?.map(|entry| Ok(entry?.path())).collect::<io::Result<Vec<_>>>()?;
+        entries.sort();
+        for path in entries {
+            if path.is_dir() {
+                self.read(&path)?;
+            } else if path.extension().is_some_and(|extension| extension == "plan") {
+                self.add(path.display().to_string(), &fs::read_to_string(&path)?);
             }
         }
+        Ok(())
     }
-    Ok((plans, none))
+
+    fn add(&mut self, name: String, text: &str) {
+        let at_start = |credentials| Thread { credentials, member: None };
+        if let Some((start, steps)) = parse(text) {
+            self.plans.push(Plan { name, start: at_start(start), steps });
+        } else if let Some((start, steps)) = family::parse(text) {
+            self.slot_plans.push(SlotPlan { name, start: at_start(start), steps });
+        } else {
+            self.none += 1;
+        }
+    }
 }
 
 // The library decides what a plan is; its text is then read without further care.
@@ -230,14 +247,13 @@ fn parse(text: &str) -> Option<(Credentials, Vec<Step>)> {
     Some((start, steps))
 }
 
-/// Cuts a plan's start to what the machine has. Says whether it had to be cut.
-pub fn fit(plan: &mut Plan, permitted: u64, bounding: u64) -> bool {
-    let start = &mut plan.start.credentials;
+/// Cuts a start to what the machine has. Says whether it had to be cut.
+pub fn fit(start: &mut Credentials, permitted: u64, bounding: u64) -> bool {
     let before = *start;
     start.bounding &= bounding;
     start.inheritable &= bounding;
     start.permitted &= permitted;
     start.effective &= start.permitted;
     start.ambient &= start.permitted & start.inheritable;
-    before != plan.start.credentials
+    before != *start
 }

@@ -35,15 +35,10 @@ impl Generator<'_> {
         let mut steps = Vec::new();
         for _ in 0..1 + self.random.below(LONGEST) {
             // Securebits above ff have no sheet, and the library can say nothing of what follows: the plan ends soon.
-            let has_sheet = thread.credentials.securebits <= SECBITS_OF_THE_PAPER;
-            if !has_sheet && self.random.chance(30) {
+            if !thread.credentials.has_sheet() && self.random.chance(30) {
                 break;
             }
-            let step = if has_sheet {
-                self.step(&thread)
-            } else {
-                Step::with(SET_SECUREBITS, self.securebits(&thread.credentials), 0, 0)
-            };
+            let step = self.step(&thread);
             if step.not_run().is_none() {
                 thread = perform(Switches::EVERY, &thread, &step).after;
             }
@@ -52,7 +47,8 @@ impl Generator<'_> {
         Plan { name, start, steps }
     }
 
-    fn start(&mut self) -> Thread {
+    /// A thread within what the machine has.
+    pub fn start(&mut self) -> Thread {
         let bounding = match self.random.below(4) {
             0 | 1 => self.bounding,
             2 => self.bounding & !self.some(),
@@ -124,8 +120,12 @@ impl Generator<'_> {
         }
     }
 
-    fn step(&mut self, thread: &Thread) -> Step {
+    /// A call of that thread. One whose securebits have no sheet is given others.
+    pub fn step(&mut self, thread: &Thread) -> Step {
         let old = &thread.credentials;
+        if !old.has_sheet() {
+            return Step::with(SET_SECUREBITS, self.securebits(old), 0, 0);
+        }
         let can_raise = old.permitted & old.inheritable != 0 && !old.is_secure(SECBIT_NO_CAP_AMBIENT_RAISE);
         let mut step = match self.random.below(100) {
             0..=39 => return self.launch(thread),

@@ -1,8 +1,11 @@
 //! The harness, a C program: plans go in, what the kernel did comes out.
 
 use crate::credentials::{Credentials, Ids, Outcome, Thread};
+use crate::family::table::{Table, TableOutcome};
+use crate::family::SlotPlan;
 use crate::image::{attribute_field, Image};
 use crate::step::{Plan, Step, Tracer, EXECVE, TRACED};
+use std::collections::BTreeMap;
 use std::fmt::Write as _;
 use std::io::{self, BufRead, BufReader, Read, Write};
 use std::process::{Child, ChildStdin, ChildStdout, Command, Stdio};
@@ -32,6 +35,18 @@ pub struct Seen {
     pub status: Vec<u8>,
 }
 
+/// What the kernel did with a slot plan. Nothing stands for a step that there was no thread to ask, or no slot to fork into.
+pub struct FamilyObservation {
+    pub start: FamilySeen,
+    pub steps: Vec<Option<FamilySeen>>,
+}
+
+/// What a step of a slot plan came to, and the text of every thread's status file after it, by its slot.
+pub struct FamilySeen {
+    pub outcome: TableOutcome,
+    pub statuses: BTreeMap<usize, Vec<u8>>,
+}
+
 impl Harness {
     /// Starts the program at `path`, with `tag` for the name of its mounts. The error says why it did not start or that it ended.
     pub fn new(path: &str, tag: &str) -> io::Result<Harness> {
@@ -54,11 +69,26 @@ impl Harness {
 
     /// Runs a plan on the kernel.
     pub fn run(&mut self, plan: &Plan) -> io::Result<Observation> {
-        self.input.write_all(plan_lines(plan).as_bytes())?;
+        let mut text = format!("plan {:x}\n{}", plan.steps.len(), start_line(&plan.start));
+        plan.steps.iter().for_each(|step| text += &step_line(step));
+        self.input.write_all(text.as_bytes())?;
         self.input.flush()?;
         let start = self.outcome(&Step::default(), plan)?;
         let outcomes = plan.steps.iter().map(|step| self.outcome(step, plan)).collect::<io::Result<_>>()?;
         Ok(Observation { start, outcomes })
+    }
+
+    /// Runs a slot plan on the kernel.
+    pub fn run_family(&mut self, plan: &SlotPlan) -> io::Result<FamilyObservation> {
+        let mut text = format!("family {:x}\n{}", plan.steps.len(), start_line(&plan.start));
+        for slot_step in &plan.steps {
+            let _ = write!(text, "{:x} {}", slot_step.slot, step_line(&slot_step.step));
+        }
+        self.input.write_all(text.as_bytes())?;
+        self.input.flush()?;
+        let start = self.family(&Step::default(), plan)?.ok_or_else(|| malformed("none"))?;
+        let steps = plan.steps.iter().map(|step| self.family(&step.step, plan)).collect::<io::Result<_>>()?;
+        Ok(FamilyObservation { start, steps })
     }
 
     /// Ends the harness and waits until it is gone.
@@ -80,20 +110,54 @@ impl Harness {
         Ok(line)
     }
 
-    // EINVAL from execve(2) is the paper's 60: the file is as it should be but for its attribute.
     fn outcome(&mut self, step: &Step, plan: &Plan) -> io::Result<Seen> {
         let line = self.line()?;
         let mut numbers = numbers(&line);
         let (Some(error), Some(value)) = (numbers.next(), numbers.next()) else { return Err(malformed(&line)) };
-        let mut after = thread(&mut numbers).ok_or_else(|| malformed(&line))?;
-        after.member = plan.start.member;
-        let code = match error as u32 {
-            EINVAL if step.call == EXECVE => UNREADABLE,
-            code => code,
-        };
-        let mut status = vec![0; numbers.next().ok_or_else(|| malformed(&line))? as usize];
+        let (after, status) = self.thread(&line, numbers, &plan.start)?;
+        Ok(Seen { outcome: Outcome { code: code(error, step), value, after }, status })
+    }
+
+    fn family(&mut self, step: &Step, plan: &SlotPlan) -> io::Result<Option<FamilySeen>> {
+        let line = self.line()?;
+        if line == "none\n" {
+            return Ok(None);
+        }
+        let found: Vec<u64> = numbers(&line).collect();
+        let [error, value, threads] = found[..] else { return Err(malformed(&line)) };
+        let mut after = Table::default();
+        let mut statuses = BTreeMap::new();
+        for _ in 0..threads {
+            let line = self.line()?;
+            let mut numbers = numbers(&line);
+            let slot = numbers.next().ok_or_else(|| malformed(&line))? as usize;
+            let (thread, status) = self.thread(&line, numbers, &plan.start)?;
+            after.0.insert(slot, thread);
+            statuses.insert(slot, status);
+        }
+        Ok(Some(FamilySeen { outcome: TableOutcome { code: code(error, step), value, after }, statuses }))
+    }
+
+    // What a thread holds, from the rest of a line's numbers, and the text of its status file, which stands after the line. No call changes its
+    // supplementary group, and a child has its parent's.
+    fn thread(
+        &mut self,
+        line: &str,
+        mut numbers: impl Iterator<Item = u64>,
+        start: &Thread,
+    ) -> io::Result<(Thread, Vec<u8>)> {
+        let credentials = credentials(&mut numbers).ok_or_else(|| malformed(line))?;
+        let mut status = vec![0; numbers.next().ok_or_else(|| malformed(line))? as usize];
         self.output.read_exact(&mut status)?;
-        Ok(Seen { outcome: Outcome { code, value, after }, status })
+        Ok((Thread { credentials, member: start.member }, status))
+    }
+}
+
+// EINVAL from execve(2) is the paper's 60: the file is as it should be but for its attribute.
+fn code(error: u64, step: &Step) -> u32 {
+    match error as u32 {
+        EINVAL if step.call == EXECVE => UNREADABLE,
+        code => code,
     }
 }
 
@@ -105,14 +169,14 @@ fn numbers(line: &str) -> impl Iterator<Item = u64> + '_ {
     line.split_ascii_whitespace().map_while(|word| u64::from_str_radix(word, 16).ok())
 }
 
-fn thread(numbers: &mut impl Iterator<Item = u64>) -> Option<Thread> {
+fn credentials(numbers: &mut impl Iterator<Item = u64>) -> Option<Credentials> {
     let mut ids = || {
         let mut id = || numbers.next().map(|number| number as u32);
         Some(Ids { real: id()?, effective: id()?, saved: id()?, filesystem: id()? })
     };
     let (uids, gids) = (ids()?, ids()?);
     let mut next = || numbers.next();
-    let credentials = Credentials {
+    Some(Credentials {
         uids,
         gids,
         permitted: next()?,
@@ -122,31 +186,31 @@ fn thread(numbers: &mut impl Iterator<Item = u64>) -> Option<Thread> {
         ambient: next()?,
         securebits: next()? as u32,
         nnp: next()? != 0,
-    };
-    Some(Thread { credentials, member: None })
+    })
 }
 
-fn plan_lines(plan: &Plan) -> String {
-    let Thread { credentials, member } = &plan.start;
+fn start_line(start: &Thread) -> String {
+    let Thread { credentials, member } = start;
     let Credentials { uids, gids, permitted, inheritable, effective, bounding, ambient, securebits, nnp } = credentials;
-    let mut text = format!("plan {:x}\n", plan.steps.len());
+    let mut text = String::new();
     for Ids { real, effective, saved, filesystem } in [uids, gids] {
         let _ = write!(text, "{real:x} {effective:x} {saved:x} {filesystem:x} ");
     }
     let _ = write!(text, "{permitted:x} {inheritable:x} {effective:x} {bounding:x} {ambient:x} ");
     let _ = writeln!(text, "{securebits:x} {:x} {:x}", u8::from(*nnp), member.unwrap_or(u32::MAX));
-    for step in &plan.steps {
-        let tracer = match step.setting.tracer {
-            _ if step.call != EXECVE || !step.flagged(TRACED) => 0,
-            Tracer::Asked => 1,
-            Tracer::Seized => 2,
-        };
-        let without_group_execution = u8::from(step.setting.without_group_execution);
-        let _ = write!(text, "{:x} {:x} {:x} {:x} ", step.call, step.a, step.b, step.c);
-        let _ = write!(text, "{tracer:x} {without_group_execution:x} ");
-        // The attribute of a file of the image is there already.
-        let attribute = if step.setting.image.is_some() { &[] } else { &step.attribute[..] };
-        let _ = writeln!(text, "{:x} {}", step.setting.image.unwrap_or(u32::MAX), attribute_field(attribute));
-    }
+    text
+}
+
+fn step_line(step: &Step) -> String {
+    let tracer = match step.setting.tracer {
+        _ if step.call != EXECVE || !step.flagged(TRACED) => 0,
+        Tracer::Asked => 1,
+        Tracer::Seized => 2,
+    };
+    let mut text = format!("{:x} {:x} {:x} {:x} ", step.call, step.a, step.b, step.c);
+    let _ = write!(text, "{tracer:x} {:x} ", u8::from(step.setting.without_group_execution));
+    // The attribute of a file of the image is there already.
+    let attribute = if step.setting.image.is_some() { &[] } else { &step.attribute[..] };
+    let _ = writeln!(text, "{:x} {}", step.setting.image.unwrap_or(u32::MAX), attribute_field(attribute));
     text
 }

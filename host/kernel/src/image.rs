@@ -2,7 +2,7 @@
 //! are fixed.
 
 use crate::attribute::{from_words, is_settable};
-use crate::step::{hex, Plan, Step, EXECVE};
+use crate::step::{hex, Step, EXECVE};
 use std::fmt::Write;
 
 /// A file of the image. An attribute of no bytes is attached all the same.
@@ -67,8 +67,8 @@ fn attributes() -> Vec<Vec<u8>> {
 }
 
 impl Image {
-    /// The fixed list, each attribute with each owner, and whatever the given plans need beside it.
-    pub fn new(plans: &[Plan]) -> Image {
+    /// The fixed list, each attribute with each owner, and whatever the given steps need beside it.
+    pub fn new<'a>(steps: impl Iterator<Item = &'a Step>) -> Image {
         let mut image = Image { files: Vec::new() };
         let mut groups = GROUPS.into_iter().cycle();
         for attribute in attributes() {
@@ -76,7 +76,7 @@ impl Image {
                 image.files.push(File { owner, group, attribute: attribute.clone() });
             }
         }
-        for step in plans.iter().flat_map(|plan| &plan.steps) {
+        for step in steps {
             if needs_image(step) && image.number(step).is_none() {
                 let attribute = step.attribute.clone();
                 image.files.push(File { owner: step.a as u32, group: step.c as u32, attribute });
@@ -139,6 +139,6 @@ mod tests {
         let list = attributes();
         assert_eq!(list.len(), 49);
         assert!(list.iter().all(|attribute| !is_settable(attribute) && attribute.len() <= 24));
-        assert_eq!(Image::new(&[]).files.len(), OWNERS.len() * list.len());
+        assert_eq!(Image::new([].iter()).files.len(), OWNERS.len() * list.len());
     }
 }

@@ -1,16 +1,17 @@
-//! Runs plans on the kernel and lays what it did beside what the proved library says. Every difference has a name, or the run fails.
+//! Runs plans and slot plans on the kernel and lays what it did beside what the proved library says. Every difference has a name, or the run fails.
 //!
 //!     kernel HARNESS EXAMPLES [--count N] [--seed N] [--verbose] [--without DEPARTURE]
 //!
-//! HARNESS is the C program of `harness/`, EXAMPLES a directory of plans. Needs root. `--verbose` names every difference; `--without` takes a
-//! departure away, so that the run has to fail. Status 1: a step is not explained, a known departure was never seen, or something is left on the
-//! machine. Status 2: it cannot be run here.
+//! HARNESS is the C program of `harness/`, EXAMPLES a directory of plans and slot plans. Needs root. N random plans are run, and as many slot plans.
+//! `--verbose` names every difference; `--without` takes a departure away, so that the run has to fail. Status 1: a step is not explained, a known
+//! departure was never seen, a planted wrong prediction was not caught, or something is left on the machine. Status 2: it cannot be run here.
 
 mod attribute;
 mod calls;
 mod comparison;
 mod credentials;
 mod departures;
+mod family;
 mod fixed;
 mod generator;
 mod harness;
@@ -20,6 +21,7 @@ mod launching;
 mod prediction;
 mod random;
 mod remains;
+mod runner;
 mod status;
 mod step;
 mod tally;
@@ -28,14 +30,17 @@ mod tests;
 mod witnesses;
 
 use ::departures::Options;
-use comparison::{compare, Fault, Verdict};
-use departures::{Departure, Switches};
+use departures::Switches;
+use family::tally::FamilyTally;
+use family::{planted, SlotPlan};
+use fixed::Examples;
 use generator::Generator;
 use harness::Harness;
 use image::Image;
 use random::Random;
 use remains::remains;
-use step::Plan;
+use runner::Runner;
+use step::{Plan, Step};
 use tally::Tally;
 use witnesses::witnesses;
 
@@ -45,11 +50,8 @@ use std::{env, fs, io};
 
 const USAGE: &str = "kernel HARNESS EXAMPLES [--count N] [--seed N] [--verbose] [--without DEPARTURE]";
 
-/// How many random plans are run where no number is given.
+/// How many random plans are run where no number is given, and as many slot plans.
 const COUNT: u64 = 5000;
-
-/// Faults are printed up to this many, and then only counted.
-const PRINTED: u64 = 5;
 
 struct Told {
     harness: String,
@@ -85,26 +87,30 @@ fn main() -> ExitCode {
         return ExitCode::from(2);
     }
     let tag = format!("urrezkalu-kernel-{}", process::id());
-    let tally = match run(&told, &tag) {
-        Ok(tally) => tally,
+    let (plans, families) = match run(&told, &tag) {
+        Ok(tallies) => tallies,
         Err(error) => {
             eprintln!("kernel: {error}");
             return ExitCode::from(2);
         }
     };
-    print!("{tally}");
+    println!("{plans}\n\n{families}");
     let remains = remains(&tag);
-    println!("\nleft behind: {}", if remains.is_empty() { "nothing".to_owned() } else { remains.join(", ") });
-    let never_seen: Vec<&str> = tally.never_seen().collect();
-    never_seen.iter().for_each(|name| println!("FAILED: {name} was never seen"));
-    ExitCode::from(u8::from(tally.unexplained != 0 || !never_seen.is_empty() || !remains.is_empty()))
+    println!("left behind: {}", if remains.is_empty() { "nothing".to_owned() } else { remains.join(", ") });
+    let never_seen =
+        |tally: &Tally, of: &str| tally.never_seen().map(|name| format!("{name} was never seen in {of}")).collect();
+    let mut failed: Vec<String> = never_seen(&plans, "a plan");
+    failed.extend(never_seen(&families.counts, "a slot plan"));
+    failed.extend(families.missed.iter().map(|name| format!("{name}, planted as a prediction, was not caught")));
+    failed.iter().for_each(|what| println!("FAILED: {what}"));
+    let unexplained = plans.unexplained + families.counts.unexplained;
+    ExitCode::from(u8::from(unexplained != 0 || !failed.is_empty() || !remains.is_empty()))
 }
 
-/// Runs the fixed plans and then the random ones, and counts them.
-fn run(told: &Told, tag: &str) -> io::Result<Tally> {
-    let mut tally = Tally::default();
-    let (examples, none) = fixed::examples(Path::new(&told.examples))?;
-    (0..none).for_each(|_| tally.not_run("an example that is no plan or has no valid start"));
+/// Runs the fixed plans and then the random ones, then the slot plans likewise, and counts them.
+fn run(told: &Told, tag: &str) -> io::Result<(Tally, FamilyTally)> {
+    let mut examples = Examples::default();
+    examples.read(Path::new(&told.examples))?;
     let lists = [
         fixed::cases(),
         fixed::points(),
@@ -113,80 +119,48 @@ fn run(told: &Told, tag: &str) -> io::Result<Tally> {
         fixed::id_calls(),
         fixed::owners(),
         fixed::groups(),
-        examples,
+        examples.plans,
     ];
     let mut fixed: Vec<Plan> = lists.into_iter().flatten().collect();
+    let mut families: Vec<SlotPlan> = family::fixed::all().into_iter().chain(examples.slot_plans).collect();
+    families.iter_mut().for_each(SlotPlan::seize);
 
-    let mut harness = Harness::new(&told.harness, tag)?;
+    let harness = Harness::new(&told.harness, tag)?;
     let (permitted, bounding) = (harness.permitted, harness.bounding);
+    let Options { count, seed, verbose, .. } = told.options;
     println!("Linux {}, permitted {permitted:016x}, bounding {bounding:016x}", about("osrelease"));
-    println!("{} fixed plans, {} random plans of seed {}\n", fixed.len(), told.options.count, told.options.seed);
-    let image = Image::new(&fixed);
-    harness.make_image(&image)?;
+    println!("{} fixed plans, {count} random plans of seed {seed}", fixed.len());
+    println!("{} fixed slot plans, {count} random slot plans of seed {seed}\n", families.len());
+    let mut runner =
+        Runner { harness, known: told.known, verbose, plans: Tally::default(), families: FamilyTally::default() };
+    (0..examples.none).for_each(|_| runner.plans.not_run("an example that is no plan or has no valid start"));
+    let image = Image::new(steps(&mut fixed, &mut families).map(|step| &*step));
+    runner.harness.make_image(&image)?;
+    steps(&mut fixed, &mut families).for_each(|step| image.furnish(step));
 
-    for plan in &mut fixed {
-        tally.starts_cut += u64::from(fixed::fit(plan, permitted, bounding));
-        plan.steps.iter_mut().for_each(|step| image.furnish(step));
+    for mut plan in fixed {
+        runner.plans.starts_cut += u64::from(fixed::fit(&mut plan.start.credentials, permitted, bounding));
+        runner.plan(plan)?;
     }
-    for plan in fixed {
-        run_plan(told, &mut harness, plan, &mut tally)?;
+    let mut generator = Generator { random: Random::new(seed), image: &image, permitted, bounding };
+    for number in 0..count {
+        runner.plan(generator.plan(format!("seed {seed}, plan {number}")))?;
     }
-    let mut generator = Generator { random: Random::new(told.options.seed), image: &image, permitted, bounding };
-    for number in 0..told.options.count {
-        let plan = generator.plan(format!("seed {}, plan {number}", told.options.seed));
-        run_plan(told, &mut harness, plan, &mut tally)?;
+    for mut plan in families {
+        runner.families.counts.starts_cut += u64::from(fixed::fit(&mut plan.start.credentials, permitted, bounding));
+        runner.slot_plan(plan)?;
     }
-    harness.end()?;
-    Ok(tally)
+    generator.random = Random::new(seed);
+    for number in 0..count {
+        runner.slot_plan(generator.slot_plan(format!("seed {seed}, slot plan {number}")))?;
+    }
+    runner.planted(&planted::witness())?;
+    runner.harness.end()?;
+    Ok((runner.plans, runner.families))
 }
 
-/// Runs one plan, without the steps that cannot be run, and counts it. A fault is printed.
-fn run_plan(told: &Told, harness: &mut Harness, mut plan: Plan, tally: &mut Tally) -> io::Result<()> {
-    plan.steps.retain(|step| {
-        let reason = step.not_run();
-        reason.into_iter().for_each(|reason| tally.not_run(reason));
-        reason.is_none()
-    });
-    let seen = harness.run(&plan)?;
-    match compare(told.known, &plan, &seen) {
-        Ok(comparison) => {
-            if told.options.verbose {
-                print_explained(&plan, &comparison.verdicts);
-            }
-            let codes: Vec<u32> = seen.outcomes.iter().map(|seen| seen.outcome.code).collect();
-            tally.plan(&plan, &codes, &comparison);
-        }
-        Err(fault) => {
-            tally.unexplained += 1;
-            if tally.unexplained <= PRINTED {
-                print_fault(&plan, &fault);
-            }
-        }
-    }
-    Ok(())
-}
-
-fn print_explained(plan: &Plan, verdicts: &[Verdict]) {
-    for (place, verdict) in verdicts.iter().enumerate() {
-        if let Verdict::Explained(switches) = verdict {
-            let names: Vec<&str> = switches.departures().map(Departure::name).collect();
-            println!("{}, step {}: {}", plan.name, place + 1, names.join(", "));
-        }
-    }
-}
-
-fn print_fault(plan: &Plan, fault: &Fault) {
-    println!("FAILED: {}: {}", plan.name, fault.what);
-    println!("start: {:x?}", plan.start);
-    let upto = fault.place.map_or(plan.steps.len(), |place| place + 1);
-    for step in &plan.steps[..upto] {
-        println!("step: {step:x?}");
-    }
-    for (name, outcome) in &fault.outcomes {
-        println!("{name}: {outcome:x?}");
-    }
-    for (name, list) in &fault.lists {
-        println!("{name}:\n{list}");
-    }
-    println!();
+// The steps of all of them.
+fn steps<'a>(plans: &'a mut [Plan], families: &'a mut [SlotPlan]) -> impl Iterator<Item = &'a mut Step> {
+    let of_slot_plans = families.iter_mut().flat_map(|plan| &mut plan.steps).map(|step| &mut step.step);
+    plans.iter_mut().flat_map(|plan| &mut plan.steps).chain(of_slot_plans)
 }

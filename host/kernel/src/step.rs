@@ -27,12 +27,16 @@ pub const SETREGID: u32 = 20;
 pub const SETRESGID: u32 = 21;
 pub const SETFSGID: u32 = 22;
 
+/// The two operations that only a slot plan has. In a plan these numbers are no call.
+pub const FORK: u32 = 30;
+pub const EXIT: u32 = 31;
+
 /// The calls of user IDs and those of group IDs, which have the same rules.
 pub const USER_ID_CALLS: [u32; 4] = [SETUID, SETREUID, SETRESUID, SETFSUID];
 pub const GROUP_ID_CALLS: [u32; 4] = [SETGID, SETREGID, SETRESGID, SETFSGID];
 
 /// The calls' names, by their numbers.
-pub const NAMES: [&str; 23] = [
+const NAMES: [&str; 23] = [
     "",
     "execve",
     "capset",
@@ -57,6 +61,15 @@ pub const NAMES: [&str; 23] = [
     "setresgid",
     "setfsgid",
 ];
+
+/// The name of a call or an operation.
+pub fn call_name(call: u32) -> &'static str {
+    match call {
+        FORK => "fork",
+        EXIT => "exit",
+        _ => NAMES.get(call as usize).copied().unwrap_or(""),
+    }
+}
 
 /// How many of the operands a call uses, by its number.
 const OPERANDS: [usize; 23] = [0, 3, 3, 1, 1, 1, 1, 1, 0, 1, 0, 1, 0, 1, 0, 1, 2, 3, 1, 1, 2, 3, 1];

@@ -1,12 +1,12 @@
 //! What is counted over a run, and the summary at its end.
 
-use crate::comparison::{Comparison, Verdict};
+use crate::comparison::Verdict;
 use crate::departures::{Switches, ALL};
-use crate::step::{Plan, Step, EXECVE, NAMES};
+use crate::step::{call_name, Step, EXECVE};
 use std::collections::BTreeMap;
 use std::fmt;
 
-/// The counts of a run.
+/// The counts of a run, of plans or of slot plans.
 #[derive(Default)]
 pub struct Tally {
     pub plans: u64,
@@ -28,16 +28,15 @@ pub struct Tally {
 }
 
 impl Tally {
-    /// Counts a plan that was run, with the codes of its steps.
-    pub fn plan(&mut self, plan: &Plan, codes: &[u32], comparison: &Comparison) {
-        let Comparison { verdicts, statuses, listing } = comparison;
-        self.plans += 1;
-        self.statuses += statuses;
-        self.statuses_listing += listing;
-        self.plans_agreed += u64::from(verdicts.iter().all(|&verdict| verdict == Verdict::Agreed));
-        for ((step, &code), &verdict) in plan.steps.iter().zip(codes).zip(verdicts) {
+    /// Counts a plan that was run: its steps with the code of each and the verdict on it.
+    pub fn plan<'a>(&mut self, steps: impl Iterator<Item = (&'a Step, u32, Verdict)>) {
+        let mut is_agreed = true;
+        for (step, code, verdict) in steps {
+            is_agreed &= verdict == Verdict::Agreed;
             self.step(step, code, verdict);
         }
+        self.plans += 1;
+        self.plans_agreed += u64::from(is_agreed);
     }
 
     fn step(&mut self, step: &Step, code: u32, verdict: Verdict) {
@@ -65,6 +64,12 @@ impl Tally {
         switches.departures().for_each(|departure| self.by_departure[departure as usize] += 1);
     }
 
+    /// Counts status files.
+    pub fn status_files(&mut self, read: u64, listing: u64) {
+        self.statuses += read;
+        self.statuses_listing += listing;
+    }
+
     /// Counts what is not run, by its reason.
     pub fn not_run(&mut self, reason: &'static str) {
         *self.not_run.entry(reason).or_default() += 1;
@@ -74,21 +79,17 @@ impl Tally {
     pub fn never_seen(&self) -> impl Iterator<Item = &'static str> + '_ {
         ALL.iter().zip(&self.by_departure).filter(|(_, &count)| count == 0).map(|(departure, _)| departure.name())
     }
-}
 
-impl fmt::Display for Tally {
-    fn fmt(&self, f: &mut fmt::Formatter<'_>) -> fmt::Result {
-        let Tally { plans, plans_agreed, starts_cut, steps, agreed, explained, unexplained, unreadable, .. } = self;
-        let Tally { statuses, statuses_listing, .. } = self;
-        writeln!(f, "{plans} plans, {plans_agreed} agreed in every step, the others up to their first difference")?;
-        writeln!(f, "{starts_cut} of the fixed plans with their start cut to the machine's sets")?;
+    /// Writes what is counted of steps and status files, and what was not run.
+    pub fn write_steps(&self, f: &mut fmt::Formatter<'_>) -> fmt::Result {
+        let Tally { steps, agreed, explained, unexplained, unreadable, statuses, statuses_listing, .. } = self;
         writeln!(f, "{steps} steps: {agreed} agreed, {explained} explained; {unexplained} plans unexplained")?;
         writeln!(f, "{unreadable} launches refused with EINVAL, which stands for 60")?;
         write!(f, "{statuses} status files read: beside the prediction {statuses_listing} list just the keys that ")?;
         writeln!(f, "differ, the others the last line alone\n")?;
         writeln!(f, "{:<20}{:>9}{:>9}{:>9}{:>9}", "call", "steps", "done", "refused", "differ")?;
         for (&call, [all, done, differ]) in &self.by_call {
-            writeln!(f, "{:<20}{all:>9}{done:>9}{:>9}{differ:>9}", NAMES[call as usize], all - done)?;
+            writeln!(f, "{:<20}{all:>9}{done:>9}{:>9}{differ:>9}", call_name(call), all - done)?;
         }
         write!(f, "\nlaunches by flags:")?;
         for (flags, count) in &self.by_flags {
@@ -106,5 +107,14 @@ impl fmt::Display for Tally {
             writeln!(f, "{count:>8}  {reason}")?;
         }
         Ok(())
+    }
+}
+
+impl fmt::Display for Tally {
+    fn fmt(&self, f: &mut fmt::Formatter<'_>) -> fmt::Result {
+        let Tally { plans, plans_agreed, starts_cut, .. } = self;
+        writeln!(f, "{plans} plans, {plans_agreed} agreed in every step, the others up to their first difference")?;
+        writeln!(f, "{starts_cut} of the fixed plans with their start cut to the machine's sets")?;
+        self.write_steps(f)
     }
 }

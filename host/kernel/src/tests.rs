@@ -1,7 +1,7 @@
 //! The model without a machine: with every switch off it is the proved library, and each switch changes something. And status files without one.
 
 use crate::calls::perform;
-use crate::credentials::{Credentials, Thread, FULL, SECBITS_OF_THE_PAPER};
+use crate::credentials::{Credentials, Thread, FULL};
 use crate::departures::{Switches, ALL};
 use crate::generator::Generator;
 use crate::image::Image;
@@ -14,13 +14,13 @@ const PLANS: u64 = 20_000;
 
 // Every step of many random plans that begins with a sheet, also those that no machine can be asked, with the thread before it.
 fn for_each_step(seed: u64, mut look: impl FnMut(&Thread, &Step)) {
-    let image = Image::new(&[]);
+    let image = Image::new([].iter());
     let mut generator = Generator { random: Random::new(seed), image: &image, permitted: FULL, bounding: FULL };
     for _ in 0..PLANS {
         let Plan { start, steps, .. } = generator.plan(String::new());
         let mut thread = start;
         for step in &steps {
-            if thread.credentials.securebits <= SECBITS_OF_THE_PAPER {
+            if thread.credentials.has_sheet() {
                 look(&thread, step);
             }
             thread = perform(Switches::EVERY, &thread, step).after;
@@ -50,8 +50,8 @@ fn every_switch_changes_something() {
     }
 }
 
-// As a kernel writes it, some lines left out.
-fn status_file(credentials: &Credentials) -> String {
+/// A status file as a kernel writes it, some lines left out.
+pub fn status_file(credentials: &Credentials) -> String {
     let Credentials { uids, permitted, inheritable, effective, bounding, ambient, nnp, .. } = credentials;
     format!(
         "Name:\tlaunched\nUid:\t{}\t{}\t{}\t{}\nGid:\t0\t0\t0\t0\nCapInh:\t{inheritable:016x}\nCapPrm:\t{permitted:016x}\n\

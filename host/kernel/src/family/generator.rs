@@ -1,0 +1,91 @@
+//! Random slot plans. The calls are those of random plans, chosen about what the named thread holds at that step, which the model of the kernel says.
+
+use super::table::{perform, Table};
+use super::{SlotPlan, SlotStep, SLOTS};
+use crate::departures::Switches;
+use crate::generator::Generator;
+use crate::step::{Step, Tracer, EXIT, FORK, GET_SECUREBITS};
+
+const LONGEST: u64 = 24;
+
+/// Above so many threads forks are made less often.
+const MANY: usize = 8;
+
+/// How often a call is chosen anew that the kernel would not answer as the paper does.
+const TRIES: usize = 20;
+
+/// What is known at a step of the slot plan that is being made.
+struct Stage {
+    table: Table,
+    /// Whether the first thread is still in slot 0.
+    has_first: bool,
+    /// Whether every step is one on which the kernel keeps to the paper.
+    keeps: bool,
+}
+
+impl Generator<'_> {
+    /// A slot plan of one to twenty-four steps. In one of two the kernel keeps to the paper in every step, so that the whole of it can be laid beside the
+    /// library's run.
+    pub fn slot_plan(&mut self, name: String) -> SlotPlan {
+        let start = self.start();
+        let keeps = self.random.chance(50);
+        let mut stage = Stage { table: Table::new(start), has_first: true, keeps };
+        let mut steps = Vec::new();
+        for _ in 0..1 + self.random.below(LONGEST) {
+            // Once every thread has exited there is nothing more to ask.
+            if stage.table.0.is_empty() && self.random.chance(50) {
+                break;
+            }
+            let step = self.slot_step(&stage);
+            if step.not_run().is_none() {
+                stage.table = perform(Switches::EVERY, &stage.table, &step).after;
+                stage.has_first &= step.slot != 0 || step.step.call != EXIT;
+            }
+            steps.push(step);
+        }
+        SlotPlan { name, start, steps }
+    }
+
+    fn slot_step(&mut self, stage: &Stage) -> SlotStep {
+        let slot = self.slot(&stage.table);
+        for _ in 0..TRIES {
+            let step = SlotStep::new(slot, self.step_of(stage, slot));
+            let [paper, kernel] =
+                [Switches::NONE, Switches::EVERY].map(|switches| perform(switches, &stage.table, &step));
+            if !stage.keeps || paper == kernel {
+                return step;
+            }
+        }
+        SlotStep::new(slot, Step::new(GET_SECUREBITS))
+    }
+
+    // Mostly one in use; now and then a free one or none.
+    fn slot(&mut self, table: &Table) -> usize {
+        let used: Vec<usize> = table.0.keys().copied().collect();
+        match self.random.below(100) {
+            0..=3 => self.random.below(SLOTS as u64) as usize,
+            4 => SLOTS + self.random.below(4) as usize,
+            5..=9 => table.lowest_free().unwrap_or(0),
+            _ if used.is_empty() => 0,
+            _ => self.random.pick(&used),
+        }
+    }
+
+    fn step_of(&mut self, stage: &Stage, slot: usize) -> Step {
+        let forks = if stage.table.0.len() < MANY { 25 } else { 5 };
+        let mut step = match (self.random.below(100), stage.table.0.get(&slot)) {
+            (choice, Some(thread)) if choice >= forks + 7 => self.step(thread),
+            (choice, _) if choice < forks => Step::new(FORK),
+            (_, Some(_)) => Step::new(EXIT),
+            (_, None) => Step::new(self.random.pick(&[EXIT, GET_SECUREBITS])),
+        };
+        if matches!(step.call, FORK | EXIT) && self.random.chance(4) {
+            let spoilt = self.random.pick(&[0, 1, 2]);
+            *[&mut step.a, &mut step.b, &mut step.c][spoilt] = 1 + self.random.below(3);
+        }
+        if slot != 0 || !stage.has_first {
+            step.setting.tracer = Tracer::Seized;
+        }
+        step
+    }
+}
