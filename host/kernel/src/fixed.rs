@@ -204,17 +204,23 @@ pub struct Examples {
     pub plans: Vec<Plan>,
     pub slot_plans: Vec<SlotPlan>,
     /// How many are neither: broken texts, and starts that are not valid.
-    pub none: usize,
+    pub neither: usize,
 }
 
 impl Examples {
-    /// Reads the files whose names end with `.plan`. A text that is a plan and a slot plan is a plan.
-    pub fn read(&mut self, directory: &Path) -> io::Result<()> {
+    /// Reads the files whose names end with `.plan`. A text that could be either is a plan.
+    pub fn read(directory: &Path) -> io::Result<Examples> {
+        let mut examples = Examples::default();
+        examples.read_from(directory)?;
+        Ok(examples)
+    }
+
+    fn read_from(&mut self, directory: &Path) -> io::Result<()> {
         let mut entries = fs::read_dir(directory)?.map(|entry| Ok(entry?.path())).collect::<io::Result<Vec<_>>>()?;
         entries.sort();
         for path in entries {
             if path.is_dir() {
-                self.read(&path)?;
+                self.read_from(&path)?;
             } else if path.extension().is_some_and(|extension| extension == "plan") {
                 self.add(path.display().to_string(), &fs::read_to_string(&path)?);
             }
@@ -229,7 +235,7 @@ impl Examples {
         } else if let Some((start, steps)) = family::parse(text) {
             self.slot_plans.push(SlotPlan { name, start: at_start(start), steps });
         } else {
-            self.none += 1;
+            self.neither += 1;
         }
     }
 }

@@ -73,8 +73,8 @@ impl Harness {
         plan.steps.iter().for_each(|step| text += &step_line(step));
         self.input.write_all(text.as_bytes())?;
         self.input.flush()?;
-        let start = self.outcome(&Step::default(), plan)?;
-        let outcomes = plan.steps.iter().map(|step| self.outcome(step, plan)).collect::<io::Result<_>>()?;
+        let start = self.outcome(&Step::default())?;
+        let outcomes = plan.steps.iter().map(|step| self.outcome(step)).collect::<io::Result<_>>()?;
         Ok(Observation { start, outcomes })
     }
 
@@ -86,8 +86,8 @@ impl Harness {
         }
         self.input.write_all(text.as_bytes())?;
         self.input.flush()?;
-        let start = self.family(&Step::default(), plan)?.ok_or_else(|| malformed("none"))?;
-        let steps = plan.steps.iter().map(|step| self.family(&step.step, plan)).collect::<io::Result<_>>()?;
+        let start = self.family(&Step::default())?.ok_or_else(|| malformed("none"))?;
+        let steps = plan.steps.iter().map(|step| self.family(&step.step)).collect::<io::Result<_>>()?;
         Ok(FamilyObservation { start, steps })
     }
 
@@ -110,15 +110,15 @@ impl Harness {
         Ok(line)
     }
 
-    fn outcome(&mut self, step: &Step, plan: &Plan) -> io::Result<Seen> {
+    fn outcome(&mut self, step: &Step) -> io::Result<Seen> {
         let line = self.line()?;
         let mut numbers = numbers(&line);
         let (Some(error), Some(value)) = (numbers.next(), numbers.next()) else { return Err(malformed(&line)) };
-        let (after, status) = self.thread(&line, numbers, &plan.start)?;
+        let (after, status) = self.thread(&line, numbers)?;
         Ok(Seen { outcome: Outcome { code: code(error, step), value, after }, status })
     }
 
-    fn family(&mut self, step: &Step, plan: &SlotPlan) -> io::Result<Option<FamilySeen>> {
+    fn family(&mut self, step: &Step) -> io::Result<Option<FamilySeen>> {
         let line = self.line()?;
         if line == "none\n" {
             return Ok(None);
@@ -131,25 +131,32 @@ impl Harness {
             let line = self.line()?;
             let mut numbers = numbers(&line);
             let slot = numbers.next().ok_or_else(|| malformed(&line))? as usize;
-            let (thread, status) = self.thread(&line, numbers, &plan.start)?;
+            let (thread, status) = self.thread(&line, numbers)?;
             after.0.insert(slot, thread);
             statuses.insert(slot, status);
         }
         Ok(Some(FamilySeen { outcome: TableOutcome { code: code(error, step), value, after }, statuses }))
     }
 
-    // What a thread holds, from the rest of a line's numbers, and the text of its status file, which stands after the line. No call changes its
-    // supplementary group, and a child has its parent's.
-    fn thread(
-        &mut self,
-        line: &str,
-        mut numbers: impl Iterator<Item = u64>,
-        start: &Thread,
-    ) -> io::Result<(Thread, Vec<u8>)> {
+    // What a thread holds, from the rest of a line's numbers, and the text of its status file, which stands after the line.
+    fn thread(&mut self, line: &str, mut numbers: impl Iterator<Item = u64>) -> io::Result<(Thread, Vec<u8>)> {
         let credentials = credentials(&mut numbers).ok_or_else(|| malformed(line))?;
         let mut status = vec![0; numbers.next().ok_or_else(|| malformed(line))? as usize];
         self.output.read_exact(&mut status)?;
-        Ok((Thread { credentials, member: start.member }, status))
+        let member = member(&status).ok_or_else(|| malformed(&String::from_utf8_lossy(&status)))?;
+        Ok((Thread { credentials, member }, status))
+    }
+}
+
+// The one supplementary group of a status file, or none.
+fn member(status: &[u8]) -> Option<Option<u32>> {
+    let mut lines = std::str::from_utf8(status).ok()?.lines();
+    let groups = lines.find_map(|line| line.strip_prefix("Groups:"))?;
+    let mut groups = groups.split_ascii_whitespace().map(str::parse);
+    match (groups.next(), groups.next()) {
+        (None, _) => Some(None),
+        (Some(group), None) => group.ok().map(Some),
+        _ => None,
     }
 }
 
@@ -213,4 +220,20 @@ fn step_line(step: &Step) -> String {
     let attribute = if step.setting.image.is_some() { &[] } else { &step.attribute[..] };
     let _ = writeln!(text, "{:x} {}", step.setting.image.unwrap_or(u32::MAX), attribute_field(attribute));
     text
+}
+
+#[cfg(test)]
+mod tests {
+    use super::member;
+
+    #[test]
+    fn one_supplementary_group_or_none() {
+        let status = |groups: &str| format!("Gid:\t1\t2\t3\t4\nFDSize:\t256\nGroups:\t{groups} \nNStgid:\t7\n");
+        assert_eq!(member(status("").as_bytes()), Some(None));
+        assert_eq!(member(status("3000").as_bytes()), Some(Some(3000)));
+        assert_eq!(member(status("4294967294").as_bytes()), Some(Some(4294967294)));
+        assert_eq!(member(status("3000 3001").as_bytes()), None);
+        assert_eq!(member(status("x").as_bytes()), None);
+        assert_eq!(member(b"Gid:\t1\t2\t3\t4\n"), None);
+    }
 }

@@ -107,10 +107,9 @@ fn main() -> ExitCode {
     ExitCode::from(u8::from(unexplained != 0 || !failed.is_empty() || !remains.is_empty()))
 }
 
-/// Runs the fixed plans and then the random ones, then the slot plans likewise, and counts them.
-fn run(told: &Told, tag: &str) -> io::Result<(Tally, FamilyTally)> {
-    let mut examples = Examples::default();
-    examples.read(Path::new(&told.examples))?;
+// The plans and the slot plans that are run whatever the seed, and how many examples are neither.
+fn fixed_lists(directory: &Path) -> io::Result<(Vec<Plan>, Vec<SlotPlan>, usize)> {
+    let Examples { plans, slot_plans, neither } = Examples::read(directory)?;
     let lists = [
         fixed::cases(),
         fixed::points(),
@@ -119,12 +118,16 @@ fn run(told: &Told, tag: &str) -> io::Result<(Tally, FamilyTally)> {
         fixed::id_calls(),
         fixed::owners(),
         fixed::groups(),
-        examples.plans,
+        plans,
     ];
-    let mut fixed: Vec<Plan> = lists.into_iter().flatten().collect();
-    let mut families: Vec<SlotPlan> = family::fixed::all().into_iter().chain(examples.slot_plans).collect();
+    let mut families: Vec<SlotPlan> = family::fixed::all().into_iter().chain(slot_plans).collect();
     families.iter_mut().for_each(SlotPlan::seize);
+    Ok((lists.into_iter().flatten().collect(), families, neither))
+}
 
+/// Runs the fixed plans and then the random ones, then the slot plans likewise, and counts them.
+fn run(told: &Told, tag: &str) -> io::Result<(Tally, FamilyTally)> {
+    let (mut fixed, mut families, neither) = fixed_lists(Path::new(&told.examples))?;
     let harness = Harness::new(&told.harness, tag)?;
     let (permitted, bounding) = (harness.permitted, harness.bounding);
     let Options { count, seed, verbose, .. } = told.options;
@@ -133,7 +136,7 @@ fn run(told: &Told, tag: &str) -> io::Result<(Tally, FamilyTally)> {
     println!("{} fixed slot plans, {count} random slot plans of seed {seed}\n", families.len());
     let mut runner =
         Runner { harness, known: told.known, verbose, plans: Tally::default(), families: FamilyTally::default() };
-    (0..examples.none).for_each(|_| runner.plans.not_run("an example that is no plan or has no valid start"));
+    (0..neither).for_each(|_| runner.plans.not_run("an example that is no plan or has no valid start"));
     let image = Image::new(steps(&mut fixed, &mut families).map(|step| &*step));
     runner.harness.make_image(&image)?;
     steps(&mut fixed, &mut families).for_each(|step| image.furnish(step));

@@ -5,6 +5,7 @@ use super::table::{perform, Table, TableOutcome};
 use super::whole::whole;
 use super::{SlotPlan, SlotStep};
 use crate::comparison::{lists, Fault, Verdict};
+use crate::credentials::Thread;
 use crate::departures::Switches;
 use crate::harness::{FamilyObservation, FamilySeen};
 use crate::status::{self, LAST_LINE};
@@ -21,13 +22,13 @@ pub struct FamilyComparison {
     /// How many status files were read, and how many of them list something beside the library's prediction.
     pub statuses: u64,
     pub listing: u64,
-    /// How many threads after a step are as the library's run of the whole slot plan says, and of how many it says something else or nothing.
+    /// How many threads after a step are as the library's run of the whole slot plan says, and how many have parted from it.
     pub predicted: u64,
     pub parted: u64,
 }
 
-/// The verdict on each step, and whether the library's run of the whole slot plan is what the family did, slot by slot, as far as it has to be. `known` are
-/// the departures that may explain a difference.
+/// The verdict on each step, and whether the library's run of the whole slot plan is what the family did, slot by slot, as far as it has to be. `known`
+/// are the departures that may explain a difference.
 pub fn compare(
     known: Switches,
     predict: Predict,
@@ -45,7 +46,7 @@ pub fn compare(
         let verdict = match (step.not_asked(before), observed) {
             (None, Some(seen)) => compare_step(known, predict, before, step, seen, &mut comparison).map(Ok),
             (Some(reason), None) => Ok(Err(reason)),
-            _ => Err(Fault::new("the harness has another thread in the slot, or none", Vec::new())),
+            _ => Err(Fault::new("the harness has a thread where none is, or none where one is", Vec::new())),
         };
         comparison.verdicts.push(verdict.map_err(|fault| Fault { place: Some(place), ..fault })?);
         before = observed.as_ref().map_or(before, |seen| &seen.outcome.after);
@@ -64,13 +65,10 @@ fn differ(what: &'static str, outcomes: &[(&str, &TableOutcome)]) -> Fault {
         slots.extend(in_use);
     }
     for slot in slots {
-        let mut threads = outcomes.iter().map(|(name, outcome)| (name, outcome.after.0.get(&slot)));
-        let is_same =
-            outcomes.len() > 1 && threads.clone().all(|(_, thread)| thread == outcomes[0].1.after.0.get(&slot));
-        if !is_same {
-            said.extend(
-                threads.by_ref().map(|(name, thread)| (format!("{name}, slot {slot}"), format!("{thread:x?}"))),
-            );
+        let threads: Vec<Option<&Thread>> = outcomes.iter().map(|(_, outcome)| outcome.after.0.get(&slot)).collect();
+        let is_same = threads.len() > 1 && threads.iter().all(|&thread| thread == threads[0]);
+        for ((name, _), thread) in outcomes.iter().zip(threads).filter(|_| !is_same) {
+            said.push((format!("{name}, slot {slot}"), format!("{thread:x?}")));
         }
     }
     Fault::new(what, said)
@@ -85,8 +83,8 @@ fn beside_model(kernel: &TableOutcome, seen: &FamilySeen, comparison: &mut Famil
     Ok(())
 }
 
-// The library is asked about the thread as it was observed before the step, so that a departure does not follow it around. All the others have to be as
-// they were.
+// The library is asked about the thread as it was observed before the step, so that a departure does not follow it around. All the others have to be
+// as they were.
 fn compare_step(
     known: Switches,
     predict: Predict,

@@ -1,6 +1,7 @@
 //! Slot plans that are run whatever the seed: what a fork copies, calls beside one another, slots taken again, all slots in use, every departure in a
 //! thread that was forked and in one that forked, and the examples.
 
+use super::planted::witness;
 use super::{SlotPlan, SlotStep, SLOTS};
 use crate::attribute::version_2;
 use crate::credentials::*;
@@ -43,8 +44,8 @@ fn apart() -> Credentials {
 
 /// All slot plans but the examples.
 pub fn all() -> Vec<SlotPlan> {
-    let lists = [copies(), beside(), departures(), vec![again(), orphans(), last(), crowd(), chain(), operands()]];
-    lists.into_iter().flatten().collect()
+    let single = vec![again(), orphans(), last(), crowd(), chain(), operands(), witness()];
+    [copies(), beside(), departures(), single].into_iter().flatten().collect()
 }
 
 // What a fork copies: fifteen values apart, every value of the securebits, and a child's child.

@@ -24,8 +24,8 @@ struct Stage {
 }
 
 impl Generator<'_> {
-    /// A slot plan of one to twenty-four steps. In one of two the kernel keeps to the paper in every step, so that the whole of it can be laid beside the
-    /// library's run.
+    /// A slot plan of one to twenty-four steps. In one of two the kernel keeps to the paper in every step, so that the whole of it can be laid beside
+    /// the library's run.
     pub fn slot_plan(&mut self, name: String) -> SlotPlan {
         let start = self.start();
         let keeps = self.random.chance(50);
@@ -65,16 +65,18 @@ impl Generator<'_> {
         match self.random.below(100) {
             0..=3 => self.random.below(SLOTS as u64) as usize,
             4 => SLOTS + self.random.below(4) as usize,
-            5..=9 => table.lowest_free().unwrap_or(0),
+            5 | 6 => table.lowest_free().unwrap_or(0),
             _ if used.is_empty() => 0,
             _ => self.random.pick(&used),
         }
     }
 
     fn step_of(&mut self, stage: &Stage, slot: usize) -> Step {
-        let forks = if stage.table.0.len() < MANY { 25 } else { 5 };
+        let threads = stage.table.0.len();
+        let forks = if threads < MANY { 25 } else { 5 };
+        let exits = if threads > 1 { 7 } else { 1 };
         let mut step = match (self.random.below(100), stage.table.0.get(&slot)) {
-            (choice, Some(thread)) if choice >= forks + 7 => self.step(thread),
+            (choice, Some(thread)) if choice >= forks + exits => self.step(thread),
             (choice, _) if choice < forks => Step::new(FORK),
             (_, Some(_)) => Step::new(EXIT),
             (_, None) => Step::new(self.random.pick(&[EXIT, GET_SECUREBITS])),

@@ -9,10 +9,10 @@ use crate::harness::FamilyObservation;
 use crate::step::{Step, AMBIENT_CLEAR, EXIT, FORK, SETUID};
 
 /// Bends what is said of the last step.
-type Bend = fn(&SlotStep, &mut SlotReport);
+pub type Bend = fn(&SlotStep, &mut SlotReport);
 
 /// The wrong predictions, by what they get wrong.
-const PLANTED: [(&str, Bend); 8] = [
+pub const PLANTED: [(&str, Bend); 9] = [
     ("a child without no-new-privs", |step, report| child(step, report, |child| child.nnp = false)),
     ("a child without its ambient set", |step, report| child(step, report, |child| child.ambient = 0)),
     ("a child in another group", |step, report| child(step, report, |child| child.gids.saved += 1)),
@@ -20,6 +20,7 @@ const PLANTED: [(&str, Bend); 8] = [
     ("an exit that leaves the thread", exit_of_none),
     ("an exit that frees the next slot", exit_of_next),
     ("a call that changes another slot", call_beside),
+    ("a call that runs in slot 0", call_in_slot_0),
     ("a call of another code", |step, report| {
         let last = report.results.last_mut().filter(|_| !matches!(step.step.call, FORK | EXIT));
         last.into_iter().for_each(|(code, _)| *code ^= 1);
@@ -100,5 +101,13 @@ fn call_beside(step: &SlotStep, report: &mut SlotReport) {
     if !matches!(step.step.call, FORK | EXIT) {
         let other = report.slots.iter_mut().find(|(&slot, _)| slot != step.slot);
         other.into_iter().for_each(|(_, other)| other.ambient = 0);
+    }
+}
+
+// The two threads were alike before the call.
+fn call_in_slot_0(step: &SlotStep, report: &mut SlotReport) {
+    if step.step.call == AMBIENT_CLEAR {
+        let changed = report.slots.insert(step.slot, report.slots[&0]);
+        report.slots.extend(changed.map(|changed| (0, changed)));
     }
 }

@@ -1,6 +1,7 @@
 //! What is counted over the slot plans of a run, and the summary of it.
 
 use super::comparison::FamilyComparison;
+use super::planted::PLANTED;
 use super::SlotPlan;
 use crate::harness::{FamilyObservation, FamilySeen};
 use crate::tally::Tally;
@@ -38,13 +39,14 @@ impl FamilyTally {
 
 impl fmt::Display for FamilyTally {
     fn fmt(&self, f: &mut fmt::Formatter<'_>) -> fmt::Result {
-        let FamilyTally { counts, predicted, parted, most, .. } = self;
+        let FamilyTally { counts, predicted, parted, most, missed } = self;
         let Tally { plans, plans_agreed, starts_cut, .. } = counts;
         write!(f, "{plans} slot plans, {plans_agreed} agreed in every step that the kernel could be asked, ")?;
         writeln!(f, "the others up to the first difference in each slot")?;
         writeln!(f, "{starts_cut} of the fixed slot plans with their start cut to the machine's sets")?;
         write!(f, "{predicted} threads after a step are as the library's run of the whole slot plan says, ")?;
         writeln!(f, "{parted} come after a difference; {most} threads at once at most")?;
+        writeln!(f, "{} planted wrong predictions, {} not caught", PLANTED.len(), missed.len())?;
         counts.write_steps(f)
     }
 }

@@ -1,5 +1,5 @@
-//! Families without a machine: with every switch off the model of the table is the proved library, and what the model says of the kernel, handed over as if it
-//! had been observed, compares as it should, right and wrong.
+//! Families without a machine: with every switch off the model of the table is the proved library; and what the model says of the kernel, handed over
+//! as if it had been observed, compares as it should, right and wrong.
 
 use super::comparison::{compare, FamilyComparison};
 use super::planted::{self, witness};
@@ -121,7 +121,7 @@ fn a_step_that_no_thread_can_make_is_not_asked() {
     assert_eq!(asked, [false, false, true, false]);
     observed.steps[0] = Some(seen(perform(Switches::EVERY, &Table::new(plan.start), &plan.steps[0])));
     let fault = compared(&plan, &observed).expect_err("a thread in a free slot");
-    assert_eq!((fault.what, fault.place), ("the harness has another thread in the slot, or none", Some(0)));
+    assert_eq!((fault.what, fault.place), ("the harness has a thread where none is, or none where one is", Some(0)));
 }
 
 // A thread that met a departure, its child, and the slot that either leaves to another's child.

@@ -1,8 +1,8 @@
 //! The library's run of a whole slot plan, laid beside the family after every step.
 //!
-//! A thread that met a departure has parted from what the plan says of it, and so has every child that it forks from then on. All others have to be as the
-//! library says, beside those too: a difference stays in its slot. Only a fork or an exit that the paper refuses for an operand, and the kernel makes, ends
-//! it: after that the slots are not the same ones.
+//! A thread that met a departure has parted from what the plan says of it, and so has every child that it forks from then on. All others have to be as
+//! the library says, also beside those: a difference stays in its slot. Only a fork or an exit that the paper refuses for an operand, and the kernel
+//! makes, ends it: after that the slots are not the same ones.
 
 use super::comparison::StepVerdict;
 use super::prediction::{Predict, SlotReport};
