@@ -21,10 +21,7 @@ pub const PLANTED: [(&str, Bend); 9] = [
     ("an exit that frees the next slot", exit_of_next),
     ("a call that changes another slot", call_beside),
     ("a call that runs in slot 0", call_in_slot_0),
-    ("a call of another code", |step, report| {
-        let last = report.results.last_mut().filter(|_| !matches!(step.step.call, FORK | EXIT));
-        last.into_iter().for_each(|(code, _)| *code ^= 1);
-    }),
+    ("a call of another code", call_of_another_code),
 ];
 
 /// A slot plan on which each of them shows.
@@ -45,8 +42,8 @@ pub fn witness() -> SlotPlan {
         SlotStep::fork(0),
         SlotStep::fork(1),
         SlotStep::new(1, Step::new(AMBIENT_CLEAR)),
-        SlotStep::new(2, Step::with(SETUID, 0, 0, 0)),
         SlotStep::exit(1),
+        SlotStep::new(2, Step::with(SETUID, 0, 0, 0)),
     ];
     let start = Thread { credentials, member: None };
     SlotPlan { name: "planted wrong predictions".to_owned(), start, steps }
@@ -102,6 +99,12 @@ fn call_beside(step: &SlotStep, report: &mut SlotReport) {
         let other = report.slots.iter_mut().find(|(&slot, _)| slot != step.slot);
         other.into_iter().for_each(|(_, other)| other.ambient = 0);
     }
+}
+
+// Of the last step alone, so that nothing else tells it.
+fn call_of_another_code(step: &SlotStep, report: &mut SlotReport) {
+    let last = report.results.last_mut().filter(|_| step.step.call == SETUID);
+    last.into_iter().for_each(|(code, _)| *code ^= 1);
 }
 
 // The two threads were alike before the call.

@@ -98,8 +98,8 @@ fn what_no_kernel_may_do_is_caught() {
         (0, |outcome| credentials(outcome, 1).nnp = false),
         (1, |outcome| outcome.value = 95),
         (2, |outcome| credentials(outcome, 0).ambient = 0),
-        (3, |outcome| outcome.code = 1),
-        (4, |outcome| outcome.after.0.retain(|&slot, _| slot != 2)),
+        (3, |outcome| outcome.after.0.retain(|&slot, _| slot != 2)),
+        (4, |outcome| outcome.code = 1),
     ];
     for (number, (place, spoil)) in spoil.into_iter().enumerate() {
         let mut observed = observe(&witness());
