@@ -11,7 +11,7 @@ use std::fmt;
 #[derive(Default)]
 pub struct FamilyTally {
     pub counts: Tally,
-    /// Threads after a step, those that the library's run of the whole slot plan predicts, and those that have parted from it.
+    /// Threads after a step that was made: those that the library's run of the whole slot plan predicts, and those that have parted from it.
     predicted: u64,
     parted: u64,
     /// The most threads that there were at once.

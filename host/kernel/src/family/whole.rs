@@ -14,7 +14,7 @@ use crate::harness::FamilyObservation;
 use crate::step::{EXIT, FORK};
 use std::collections::BTreeSet;
 
-/// How many threads after a step are as the library's run of the slot plan up to there says, and how many are not laid beside it.
+/// How many threads after a step that was made are as the library's run of the slot plan up to there says, and how many are not laid beside it.
 pub fn whole(
     predict: Predict,
     plan: &SlotPlan,
@@ -29,7 +29,9 @@ pub fn whole(
         last = seen.as_ref().map_or_else(|| perform(Switches::NONE, &last.after, step), |seen| seen.outcome.clone());
         are_same = are_same
             && whole.step(place, &last, &verdicts[place]).map_err(|fault| Fault { place: Some(place), ..fault })?;
-        whole.left += if are_same { 0 } else { last.after.0.len() as u64 };
+        if !are_same && seen.is_some() {
+            whole.left += last.after.0.len() as u64;
+        }
     }
     Ok((whole.predicted, whole.left))
 }
@@ -68,7 +70,7 @@ impl Whole<'_> {
             return Err(self.fault(what, &report, observed));
         }
         self.part(*slot, is_explained, (step.call == FORK && observed.code == 0).then_some(observed.value as usize));
-        self.threads(&report, observed)?;
+        self.threads(&report, observed, verdict.is_ok())?;
         self.answers = report.results;
         Ok(true)
     }
@@ -84,12 +86,13 @@ impl Whole<'_> {
         }
     }
 
-    fn threads(&mut self, report: &SlotReport, observed: &TableOutcome) -> Result<(), Fault> {
+    // After a step that was not asked they are what they were, and are not counted again.
+    fn threads(&mut self, report: &SlotReport, observed: &TableOutcome, is_asked: bool) -> Result<(), Fault> {
         for (slot, thread) in &observed.after.0 {
             if self.parted.contains(slot) {
-                self.left += 1;
+                self.left += u64::from(is_asked);
             } else if report.slots[slot] == thread.credentials {
-                self.predicted += 1;
+                self.predicted += u64::from(is_asked);
             } else {
                 let what = "a thread is not what the library's run of the whole slot plan says";
                 return Err(self.fault(what, report, observed));
