@@ -3,6 +3,7 @@
 pub mod comparison;
 pub mod fixed;
 pub mod generator;
+mod parents;
 pub mod planted;
 pub mod prediction;
 pub mod table;
@@ -12,8 +13,10 @@ mod tests;
 mod whole;
 
 use crate::credentials::{Credentials, Thread};
+use crate::departures::Switches;
 use crate::step::{Step, Tracer, EXIT, FORK};
-use table::Table;
+use parents::Parents;
+use table::{perform, Table};
 
 /// How many slots there are.
 pub const SLOTS: usize = urrezkalu::SLOTS;
@@ -84,15 +87,16 @@ pub struct SlotPlan {
 }
 
 impl SlotPlan {
-    /// Has the harness seize every thread but the first for a traced launch: one that asks to be traced is traced by its parent, which has to be the
-    /// harness.
+    /// Has the harness seize every thread for a traced launch that could not ask for it, its parent being another thread of the family.
     pub fn seize(&mut self) {
-        let mut is_first = true;
-        for SlotStep { slot, step } in &mut self.steps {
-            if *slot != 0 || !is_first {
-                step.setting.tracer = Tracer::Seized;
+        let (mut table, mut parents) = (Table::new(self.start), Parents::default());
+        for step in self.steps.iter_mut().filter(|step| step.not_run().is_none()) {
+            if parents.has(step.slot) {
+                step.step.setting.tracer = Tracer::Seized;
             }
-            is_first &= *slot != 0 || step.call != EXIT;
+            let outcome = perform(Switches::EVERY, &table, step);
+            parents.note(step, &outcome);
+            table = outcome.after;
         }
     }
 }

@@ -97,14 +97,17 @@ fn beside() -> Vec<SlotPlan> {
     calls.iter().flat_map(|call| [0, 1].map(|slot| in_slot(call, slot))).collect()
 }
 
-// Each departure's own step, in a thread that has forked and in the child. A child that asks to be traced is traced by its parent, and cannot be let go.
+// Each departure's own step, in a thread that has forked and in the child. Where the child asks to be traced its parent has exited, so that it is the
+// harness's.
 fn departures() -> Vec<SlotPlan> {
     let mut plans = Vec::new();
     for witness in witnesses() {
         let step = &witness.steps[0];
         let asks = step.call == EXECVE && step.flagged(TRACED) && step.setting.tracer == Tracer::Asked;
-        for slot in if asks { 0..1 } else { 0..2 } {
-            let steps = vec![SlotStep::fork(0), SlotStep::new(slot, step.clone()), SlotStep::fork(slot)];
+        for slot in [0, 1] {
+            let orphaning = (asks && slot == 1).then(|| SlotStep::exit(0));
+            let rest = [SlotStep::new(slot, step.clone()), SlotStep::fork(slot)];
+            let steps = [SlotStep::fork(0)].into_iter().chain(orphaning).chain(rest).collect();
             let name = format!("{}, in slot {slot}", witness.name);
             plans.push(SlotPlan { name, start: witness.start, steps });
         }

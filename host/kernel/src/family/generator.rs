@@ -1,5 +1,6 @@
 //! Random slot plans. The calls are those of random plans, chosen about what the named thread holds at that step, which the model of the kernel says.
 
+use super::parents::Parents;
 use super::table::{perform, Table};
 use super::{SlotPlan, SlotStep, SLOTS};
 use crate::departures::Switches;
@@ -17,8 +18,7 @@ const TRIES: usize = 20;
 /// What is known at a step of the slot plan that is being made.
 struct Stage {
     table: Table,
-    /// Whether the first thread is still in slot 0.
-    has_first: bool,
+    parents: Parents,
     /// Whether every step is one on which the kernel keeps to the paper.
     keeps: bool,
 }
@@ -29,7 +29,7 @@ impl Generator<'_> {
     pub fn slot_plan(&mut self, name: String) -> SlotPlan {
         let start = self.start();
         let keeps = self.random.chance(50);
-        let mut stage = Stage { table: Table::new(start), has_first: true, keeps };
+        let mut stage = Stage { table: Table::new(start), parents: Parents::default(), keeps };
         let mut steps = Vec::new();
         for _ in 0..1 + self.random.below(LONGEST) {
             // Once every thread has exited there is nothing more to ask.
@@ -38,8 +38,9 @@ impl Generator<'_> {
             }
             let step = self.slot_step(&stage);
             if step.not_run().is_none() {
-                stage.table = perform(Switches::EVERY, &stage.table, &step).after;
-                stage.has_first &= step.slot != 0 || step.step.call != EXIT;
+                let outcome = perform(Switches::EVERY, &stage.table, &step);
+                stage.parents.note(&step, &outcome);
+                stage.table = outcome.after;
             }
             steps.push(step);
         }
@@ -85,7 +86,7 @@ impl Generator<'_> {
             let spoilt = self.random.pick(&[0, 1, 2]);
             *[&mut step.a, &mut step.b, &mut step.c][spoilt] = 1 + self.random.below(3);
         }
-        if slot != 0 || !stage.has_first {
+        if stage.parents.has(slot) {
             step.setting.tracer = Tracer::Seized;
         }
         step

@@ -181,17 +181,16 @@ fn a_slot_plan_reads_back() {
     });
 }
 
+// The first thread, and the others once their parents have exited.
 #[test]
-fn only_the_first_thread_asks_to_be_traced() {
-    let launch = || Step::launch(0, TRACED, &[]);
+fn a_child_of_the_harness_asks_to_be_traced() {
+    let launch = |slot: usize| SlotStep::new(slot, Step::launch(0, TRACED, &[]));
     let mut plan = witness();
-    plan.steps = [SlotStep::fork(0), SlotStep::exit(1), SlotStep::exit(0), SlotStep::fork(1)]
-        .into_iter()
-        .flat_map(|step| [SlotStep::new(0, launch()), SlotStep::new(1, launch()), step])
-        .collect();
+    plan.steps = vec![launch(0), SlotStep::fork(0), SlotStep::fork(1), launch(0), launch(1), launch(2)];
+    plan.steps.extend([SlotStep::exit(0), launch(1), launch(2), SlotStep::fork(2), launch(0)]);
+    plan.steps.extend([SlotStep::exit(1), launch(2), launch(0), SlotStep::exit(2), launch(0)]);
     plan.seize();
-    let asks = plan.steps.iter().filter(|step| step.step.call == EXECVE && step.step.setting.tracer == Tracer::Asked);
-    let asks: Vec<usize> = asks.map(|step| step.slot).collect();
-    assert_eq!(asks, [0, 0, 0]);
-    assert!(plan.steps[9..].iter().all(|step| step.step.setting.tracer == Tracer::Seized));
+    let launches = plan.steps.iter().filter(|step| step.step.call == EXECVE);
+    let asks: Vec<bool> = launches.map(|step| step.step.setting.tracer == Tracer::Asked).collect();
+    assert_eq!(asks, [true, true, false, false, true, false, false, true, false, true]);
 }
