@@ -58,7 +58,7 @@ turns:
 	@test -n "$(BEFORE)" || { echo 'make turns BEFORE=COMMIT: times the library of that commit and this one in turns' >&2; exit 2; }
 	@host/bench/turns "$(BEFORE)"
 
-# Plans performed with real system calls, and what the kernel did laid beside the library's prediction.
+# Plans performed with real system calls, slot plans by families that really fork, and what the kernel did laid beside the library's prediction.
 kernel: root library
 	@cc -std=c11 -static -O1 -Wall -Wextra -Werror host/kernel/harness/*.c -o target/kernel-harness
 	@$(CARGO_RUN) -p kernel -- target/kernel-harness examples $(OPTIONS)

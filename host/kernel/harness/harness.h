@@ -14,7 +14,7 @@ enum { LONGEST_ATTRIBUTE = 24, LONGEST_PATH = 64, LONGEST_STATUS = 16384 };
 /* The socket that a thread keeps over every launch: orders come in on it, results go out. */
 enum { CHANNEL = 3 };
 
-/* The orders that are more than a call: to look, which is to tell what the thread holds, and the two operations of a slot plan. */
+/* The orders that the harness has to know: to look, which is only to tell what the thread holds; a launch; the two operations of a slot plan. */
 enum { LOOK = 0, EXECVE = 1, FORK = 30, EXIT = 31 };
 
 /* Who traces a launch: nobody, the parent by the thread's own PTRACE_TRACEME, or the harness by PTRACE_SEIZE. */

@@ -14,7 +14,7 @@ mod whole;
 
 use crate::credentials::{Credentials, Thread};
 use crate::departures::Switches;
-use crate::step::{Step, Tracer, EXIT, FORK};
+use crate::step::{Step, Tracer, ATTRIBUTE_ELSEWHERE, EXIT, FORK};
 use parents::Parents;
 use table::{perform, Table};
 
@@ -57,11 +57,9 @@ impl SlotStep {
 
     /// Why the machine cannot be asked this step, whatever threads there are, if it cannot.
     pub fn not_run(&self) -> Option<&'static str> {
-        let is_operation = matches!(self.step.call, FORK | EXIT) && self.step.attribute.is_empty();
-        if is_operation {
-            None
-        } else {
-            self.step.not_run()
+        match self.step.call {
+            FORK | EXIT => (!self.step.attribute.is_empty()).then_some(ATTRIBUTE_ELSEWHERE),
+            _ => self.step.not_run(),
         }
     }
 

@@ -74,6 +74,9 @@ pub fn call_name(call: u32) -> &'static str {
 /// How many of the operands a call uses, by its number.
 const OPERANDS: [usize; 23] = [0, 3, 3, 1, 1, 1, 1, 1, 0, 1, 0, 1, 0, 1, 0, 1, 2, 3, 1, 1, 2, 3, 1];
 
+/// Why a step with an attribute is not run that is no launch.
+pub const ATTRIBUTE_ELSEWHERE: &str = "an attribute in a call that is no launch";
+
 /// The flags of a launch.
 pub const SET_USER_ID: u64 = 1;
 pub const SET_GROUP_ID: u64 = 2;
@@ -179,7 +182,7 @@ impl Step {
                 Some("a launch under no_file_caps, which is an option of the kernel's start")
             }
             EXECVE => None,
-            _ if !self.attribute.is_empty() => Some("an attribute in a call that is no launch"),
+            _ if !self.attribute.is_empty() => Some(ATTRIBUTE_ELSEWHERE),
             _ => None,
         }
     }

@@ -3,6 +3,7 @@
 use super::parents::Parents;
 use super::table::{perform, Table};
 use super::{SlotPlan, SlotStep, SLOTS};
+use crate::attribute::version_2;
 use crate::departures::Switches;
 use crate::generator::Generator;
 use crate::step::{Step, Tracer, EXIT, FORK, GET_SECUREBITS};
@@ -24,8 +25,8 @@ struct Stage {
 }
 
 impl Generator<'_> {
-    /// A slot plan of one to twenty-four steps. In one of two the kernel keeps to the paper in every step, so that the whole of it can be laid beside
-    /// the library's run.
+    /// A slot plan of one to twenty-four steps. In about one of two the kernel keeps to the paper in every step, so that the whole of it can be laid
+    /// beside the library's run.
     pub fn slot_plan(&mut self, name: String) -> SlotPlan {
         let start = self.start();
         let keeps = self.random.chance(50);
@@ -82,9 +83,14 @@ impl Generator<'_> {
             (_, Some(_)) => Step::new(EXIT),
             (_, None) => Step::new(self.random.pick(&[EXIT, GET_SECUREBITS])),
         };
-        if matches!(step.call, FORK | EXIT) && self.random.chance(4) {
-            let spoilt = self.random.pick(&[0, 1, 2]);
-            *[&mut step.a, &mut step.b, &mut step.c][spoilt] = 1 + self.random.below(3);
+        match self.random.below(100) {
+            _ if !matches!(step.call, FORK | EXIT) => {}
+            0 => step.attribute = version_2(0, 0, false),
+            1..=4 => {
+                let spoilt = self.random.pick(&[0, 1, 2]);
+                *[&mut step.a, &mut step.b, &mut step.c][spoilt] = 1 + self.random.below(3);
+            }
+            _ => {}
         }
         if stage.parents.has(slot) {
             step.setting.tracer = Tracer::Seized;
