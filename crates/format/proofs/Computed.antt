@@ -13,12 +13,12 @@ use Rattle.rules.specs.Run.{result, run, lastOf}
 use Rattle.format.specs.Line.{hexText, decimalOf, decimalText, keyedText, linesText, readHex, readDigits, readDecimal, afterKey, readLines}
 use Rattle.format.specs.Sheet.{idKinds, uidKinds, gidKinds, setKinds, flagKinds, sheetKinds, sheetText, readFront, readSheet, sheetAnswer, sheetBuffer}
 use Rattle.format.specs.Step.{stepKinds, readPairs, readStep}
-use Rattle.format.specs.Plan.{readMany, readPlan}
+use Rattle.format.specs.Plan.{readMany, readPlanBy}
 use Rattle.format.specs.Report.{resultKinds, resultText, resultsText, reportText, verdict}
 use Rattle.format.specs.Texts.{TextsHold, times}
 
 pub texts-hold : TextsHold
-unfolding readSheet sheetAnswer sheetBuffer has minus outside wordAt fileOf lengthOf reading unreadable version2 valid number ignoresSetId ignoresAttribute fileRead inForce effectiveId launchedIds rootCounts countedSet counted changesEffective isPrivileged launchedAmbient gained launchedEffective launchedSets fallsShort launched launch setuidAllowed setuidIds setuidOn setuid usesOne known decode answer result run lastOf hexText decimalOf decimalText keyedText linesText readHex readDigits readDecimal afterKey readLines idKinds uidKinds gidKinds setKinds flagKinds sheetKinds sheetText readFront stepKinds readPairs readStep readMany readPlan resultKinds resultText resultsText reportText verdict times
+unfolding readSheet sheetAnswer sheetBuffer has minus outside wordAt fileOf lengthOf reading unreadable version2 valid number ignoresSetId ignoresAttribute fileRead inForce effectiveId launchedIds rootCounts countedSet counted changesEffective isPrivileged launchedAmbient gained launchedEffective launchedSets fallsShort launched launch setuidAllowed setuidIds setuidOn setuid usesOne known decode answer result run lastOf hexText decimalOf decimalText keyedText linesText readHex readDigits readDecimal afterKey readLines idKinds uidKinds gidKinds setKinds flagKinds sheetKinds sheetText readFront stepKinds readPairs readStep readMany readPlanBy resultKinds resultText resultsText reportText verdict times
 texts-hold =
     record {
       case-2 = refl;

@@ -7,6 +7,7 @@ pub mod Keys
 pub mod Lengths
 pub mod Longest
 pub mod Pairs
+pub mod Plans
 pub mod Reached
 pub mod ReadWritten
 pub mod Reading

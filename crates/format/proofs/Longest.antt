@@ -21,14 +21,14 @@ use Rattle.format.specs.declared.SheetReading.the-variants.{Sheet, Malfo
 use Rattle.format.specs.Line.{decimalText, linesText, Read, read, faultAt, readLines}
 use Rattle.format.specs.Sheet.{idKinds, uidKinds, gidKinds, setKinds, flagKinds, sheetKinds, sheetValues, sheetText, credentialsOf, readFront, wholeSheet, readSheet}
 use Rattle.format.specs.Step.{stepKinds, attributeKey, attributeText, stepText, readAttribute, stepOf, readStep}
-use Rattle.format.specs.Plan.{Plan, stepsText, planText, MOST-STEPS, readSteps, readPlan}
-use Rattle.format.specs.Report.{resultText, resultsText, reportText, report, malformed, invalid, judged, verdict}
-use Rattle.format.specs.RoundTrip.{Writable, WritableSheet, AllWritable}
+use Rattle.format.specs.Plan.{Plan, readPlan}
+use Rattle.format.specs.Report.{resultText, resultsText, reportText, report, judgedBy, verdict}
+use Rattle.format.specs.RoundTrip.{Writable}
 use Rattle.format.specs.Longest.{longestSheet, longestPlan, longestReport, Longest}
 use Rattle.format.proofs.Alike.{Alike, value-alike, mapped-alike, next-alike, lines-alike, attribute-alike}
 use Rattle.format.proofs.Decimals.{below-or-not}
 use Rattle.format.proofs.Lengths.{length-one, at-most, mostLines, length-lines, length-result-lines, length-attribute}
-use Rattle.format.proofs.Many.{length-many, many-alike}
+use Rattle.format.proofs.Plans.{most-sheet, length-sheet, length-by, length-judged, plan-alike}
 use Rattle.format.proofs.Sheets as Sheets
 use Rattle.format.proofs.Steps as Steps
 use Rattle.format.proofs.RoundTrip.{sheet-round-trip, plan-round-trip}
@@ -36,19 +36,10 @@ use Rattle.format.proofs.Reached.{start, sheet, sheet-read, sheet-lengt
 
 -- ---- sheets, steps and plans
 
--- 204 bytes without the digits of the IDs, and eight times 10 digits
-pub most-sheet : mostLines sheetKinds ≤ 284
-unfolding mostLines idKinds uidKinds gidKinds setKinds flagKinds sheetKinds
-most-sheet = omega (arith, at-most 9 4294967295 (omega arith), length-one 1 (omega arith))
-
 -- a call's line of 8 bytes and three operands' of 19
 most-step : mostLines stepKinds ≤ 65
 unfolding mostLines stepKinds
 most-step = omega (arith, at-most 1 99 (omega arith))
-
-pub length-sheet : (c : Credentials) → WritableSheet c → length (sheetText c) ≤ 284
-unfolding sheetText
-length-sheet c w = omega (arith, length-lines sheetKinds (sheetValues c) (Sheets.values-fit c w), most-sheet)
 
 -- with an attribute's line of 54
 pub length-step : (s : Step) → Writable s → length (stepText s) ≤ 119
@@ -63,22 +54,10 @@ length-step s w =
       length-attribute attributeKey (s .attribute) (w .size),
     )
 
-length-steps : (ss : List Step) → AllWritable ss → length (stepsText ss) ≤ length ss * 119
-length-steps = length-many stepText Writable 119 length-step
-
 length-plan : (text : List ℕ) (p : Plan) (rest : List ℕ) → readPlan text ≡ read p rest → length text ≤ longestPlan
-unfolding planText
 length-plan text p rest e =
     let r = plan-round-trip .read-written text p rest e in
-    let w = r .2 in
-    omega (
-      arith,
-      ap length (r .0),
-      length-append (sheetText (p .start)) (stepsText (p .steps)),
-      length-sheet (p .start) (w .start),
-      length-steps (p .steps) (w .steps),
-      w .count,
-    )
+    omega (arith, ap length (r .0), length-by stepText Writable 119 length-step p (r .2))
 
 -- ---- reports
 
@@ -135,19 +114,11 @@ length-report p v n =
       length-sheet last (Sheets.valid-writable last (demand-3 (p .start) v (p .steps) .ends-valid)),
     )
 
-length-reported : (p : Plan) (t : List ℕ) (b : Bool) → valid (p .start) ≡ b → length (p .steps) ≤ 256 → cond b (report (reportText p)) invalid ≡ report t
-    → length t ≤ longestReport
-length-reported p t true v n e = let q : reportText p ≡ t = cc in omega (arith, ap length q, length-report p v n)
-length-reported p t false v n e = let z : _≡_ {A = ℕ} 0 1 = cc in absurd (omega arith)
-
-length-judged : (text t : List ℕ) (r : Read Plan) → readPlan text ≡ r → judged r ≡ report t → length t ≤ longestReport
-length-judged text t (read p rest) q e =
-    length-reported p t (valid (p .start)) refl (plan-round-trip .read-written text p rest q .2 .count) e
-length-judged text t (faultAt line) q e = let z : _≡_ {A = ℕ} 0 1 = cc in absurd (omega arith)
-
 length-verdict : (text t : List ℕ) → verdict text ≡ report t → length t ≤ longestReport
 unfolding verdict
-length-verdict text t e = length-judged text t (readPlan text) refl e
+length-verdict text t e =
+    length-judged reportText longestReport (readPlan text) t
+    (λ p rest q v. length-report p v (plan-round-trip .read-written text p rest q .2 .count)) e
 
 -- ---- a text that is cut
 
@@ -161,21 +132,6 @@ step-alike u more left h =
     mapped-alike more left (stepOf vs) (readAttribute attributeKey t) (readAttribute attributeKey (t ++ more))
     (attribute-alike attributeKey t more left g))
 
--- one byte more than n steps have
-steps-alike : (n : ℕ) (u more : List ℕ) → n * 119 + 1 ≤ length u → Alike more 0 (readSteps n u) (readSteps n (u ++ more))
-steps-alike = many-alike (length stepKinds + 1) readStep 119 step-alike
-
--- one byte more than a plan has
-plan-alike : (u more : List ℕ) → 30749 ≤ length u → Alike more 0 (readPlan u) (readPlan (u ++ more))
-unfolding readPlan readFront
-plan-alike u more h =
-    next-alike more 0 _ 30465 (readFront u) (readFront (u ++ more)) _
-    (mapped-alike more 30465 credentialsOf (readLines sheetKinds u) (readLines sheetKinds (u ++ more))
-    (lines-alike sheetKinds u more 30465 (omega (arith, most-sheet))))
-    (λ c r g.
-    mapped-alike more 0 (λ ss. record { start = c; steps = ss }) (readSteps MOST-STEPS r) (readSteps MOST-STEPS (r ++ more))
-    (steps-alike MOST-STEPS r more (omega (arith, g))))
-
 -- what does not depend on the text after its first n bytes is the same of those alone
 pub cut-at : {A : Type 0} (f : List ℕ → A) (n : ℕ) → ((u more : List ℕ) → n ≤ length u → f u ≡ f (u ++ more)) → (text : List ℕ) → f (take n text) ≡ f text
 cut-at f n h text =
@@ -184,10 +140,10 @@ cut-at f n h text =
     (λ (l : n ≤ length text). h (take n text) (drop n text) (omega (arith, length-take-le n text l)) ∙ ap f (take-append-drop n text))
     (below-or-not (length text) n)
 
--- a text that is cut where that byte ends
+-- a text that is cut one byte after what a plan has at most
 cut : (text : List ℕ) → verdict (take 30749 text) ≡ verdict text
 unfolding verdict
-cut = cut-at verdict 30749 (λ u more h. value-alike more judged (λ p t s. refl) (readPlan u) (readPlan (u ++ more)) (plan-alike u more h))
+cut = cut-at verdict 30749 (λ u more h. value-alike more (judgedBy reportText) (λ p t s. refl) (readPlan u) (readPlan (u ++ more)) (plan-alike (length stepKinds + 1) readStep 119 step-alike u more h))
 
 -- ---- a sheet that is cut
 

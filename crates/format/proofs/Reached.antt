@@ -13,8 +13,8 @@ use Rattle.format.specs.declared.SheetReading.the-variants.{Sheet}
 use Rattle.format.specs.Line.{bytes, read, hexText, decimalOf, decimalText, keyedText, linesText, readHex, readDigits, readDecimal, afterKey, readLines}
 use Rattle.format.specs.Sheet.{idKinds, uidKinds, gidKinds, setKinds, flagKinds, sheetKinds, sheetText, readFront, readSheet}
 use Rattle.format.specs.Step.{stepKinds, readPairs, readStep}
-use Rattle.format.specs.Plan.{Plan, readMany, readPlan}
-use Rattle.format.specs.Report.{resultKinds, resultText, resultsText, reportText, report, judged, verdict}
+use Rattle.format.specs.Plan.{Plan, readMany, readPlanBy, readPlan}
+use Rattle.format.specs.Report.{resultKinds, resultText, resultsText, reportText, report, judgedBy, verdict}
 use Rattle.format.specs.Longest.{longestSheet, longestPlan, longestReport}
 use Rattle.format.specs.Texts.{times}
 use Rattle.format.proofs.RoundTrip.{sheet-round-trip}
@@ -61,7 +61,7 @@ pub sheet-length : length sheet ≡ longestSheet
 sheet-length = refl
 
 pub text-read : readPlan text ≡ read plan []
-unfolding times readHex readDigits readDecimal afterKey readLines idKinds uidKinds gidKinds setKinds flagKinds sheetKinds readFront stepKinds readPairs readStep readMany readPlan
+unfolding times readHex readDigits readDecimal afterKey readLines idKinds uidKinds gidKinds setKinds flagKinds sheetKinds readFront stepKinds readPairs readStep readMany readPlanBy
 text-read = refl
 
 pub text-length : length text ≡ longestPlan
@@ -70,7 +70,7 @@ text-length = refl
 
 pub text-verdict : verdict text ≡ report (reportText plan)
 unfolding valid verdict
-text-verdict = ap judged text-read
+text-verdict = ap (judgedBy reportText) text-read
 
 -- ---- its report
 

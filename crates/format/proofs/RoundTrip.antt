@@ -2,18 +2,19 @@
 use mathlib.Core.Path.{_≡_, refl, sym, ap, _∙_}
 use mathlib.Core.List.{List, [], _∷_, _++_, append-nil}
 use mathlib.Core.Bool.{Bool, true, false, cond}
-use Prim.Native.Nat.{ℕ}
+use Prim.Native.Nat.{ℕ, _+_}
 use native.Mathlib.Omega.{arith}
+use lib.ListN.{length}
 use Rattle.credentials.specs.Validity.{valid}
 use Rattle.credentials.specs.declared.Credentials.{Credentials}
 use Rattle.format.specs.declared.SheetReading.the-variants.{Sheet, Invalid}
-use Rattle.format.specs.Line.{Read, read, faultAt, mapped}
+use Rattle.format.specs.Line.{Read, read, faultAt}
 use Rattle.format.specs.Sheet.{sheetText, readFront, wholeSheet, readSheet}
-use Rattle.format.specs.Plan.{Plan, stepsText, planText, MOST-STEPS, readSteps, readPlan}
-use Rattle.format.specs.RoundTrip.{SheetRoundTrip, StepRoundTrip, WritablePlan, PlanRoundTrip}
-use Rattle.format.proofs.Reading.{next-told, mapped-told}
+use Rattle.format.specs.Step.{stepKinds, stepText, readStep}
+use Rattle.format.specs.RoundTrip.{SheetRoundTrip, StepRoundTrip, Writable, PlanRoundTrip}
+use Rattle.format.proofs.Plans.{plan-read, plan-written}
 use Rattle.format.proofs.Sheets.{front-read, front-written, valid-writable}
-use Rattle.format.proofs.Steps.{step-read, step-written, steps-read, steps-written}
+use Rattle.format.proofs.Steps.{step-read, step-written, no-step}
 
 -- ---- sheets
 
@@ -53,23 +54,10 @@ step-round-trip = record { written-read = step-read; read-written = step-written
 
 -- ---- plans
 
-plan-read : (p : Plan) → WritablePlan p → readPlan (planText p) ≡ read p []
-unfolding readPlan planText
-plan-read p w = rw (front-read (p .start) (stepsText (p .steps)) (w .start), steps-read MOST-STEPS (p .steps) (w .steps) (omega (arith, w .count)))
-
-plan-written : (text : List ℕ) (p : Plan) (rest : List ℕ) → readPlan text ≡ read p rest → (text ≡ planText p) × (rest ≡ []) × WritablePlan p
-unfolding readPlan planText
-plan-written text p rest e =
-    let n = next-told p rest _ (readFront text) (λ c t. mapped (λ ss. record { start = c; steps = ss }) (readSteps MOST-STEPS t)) e in
-    let m = mapped-told p rest (λ ss. record { start = n .0; steps = ss }) (readSteps MOST-STEPS (n .1)) (n .3) in
-    let f = front-written (n .0) text (n .1) (n .2) in
-    let s = steps-written MOST-STEPS (m .0) (n .1) rest (m .1) in
-    rw (← (m .2)) (
-      f .0 ∙ ap (λ (t : List ℕ). sheetText (n .0) ++ t) (s .0),
-      s .1,
-      record { start = f .1; steps = s .2; count = omega (arith, s .3) },
-    )
-
 -- a plan's text and the plan
 pub plan-round-trip : PlanRoundTrip
-plan-round-trip = record { written-read = plan-read; read-written = plan-written }
+plan-round-trip =
+    record {
+      written-read = plan-read (length stepKinds + 1) readStep stepText Writable no-step step-read step-written;
+      read-written = plan-written (length stepKinds + 1) readStep stepText Writable no-step step-read step-written;
+    }

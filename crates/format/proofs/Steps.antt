@@ -1,17 +1,15 @@
--- A text that begins with steps: written and read, each from the other. Assumes nothing.
+-- A text that begins with a step: written and read, each from the other. Assumes nothing.
 use mathlib.Core.Path.{_≡_, refl, sym, ap, _∙_, subst}
 use mathlib.Core.List.{List, [], _∷_, _++_, append-assoc}
-use Prim.Native.Nat.{ℕ, _+_, _^_, _<_, _≤_}
+use Prim.Native.Nat.{ℕ, _^_, _<_, _≤_}
 use native.Mathlib.Omega.{arith}
 use lib.ListN.{length, getD}
 use Rattle.rules.specs.Run.{Step}
 use Rattle.attribute.specs.Words.{Bytes}
 use Rattle.format.specs.Line.{linesText, read, fault, mapped, readLines, afterKey}
 use Rattle.format.specs.Step.{stepKinds, attributeKey, attributeText, stepText, readAttribute, stepOf, readStep}
-use Rattle.format.specs.Plan.{stepsText, readSteps}
-use Rattle.format.specs.RoundTrip.{Writable, AllWritable}
+use Rattle.format.specs.RoundTrip.{Writable}
 use Rattle.format.proofs.Reading.{next-told, mapped-told}
-use Rattle.format.proofs.Many.{many-read, many-written}
 use Rattle.format.proofs.Fitting.{FitAll, placed, placed-same}
 use Rattle.format.proofs.WrittenRead.{lines-read}
 use Rattle.format.proofs.ReadWritten.{lines-written}
@@ -62,18 +60,7 @@ step-written text s rest e =
     ∙ sym (append-assoc (linesText stepKinds (stepValues (stepOf (n .0) (m .0)))) (attributeText (m .0)) rest) in
     rw (← (m .2)) (whole, v .1)
 
--- ---- steps to the end of the text
-
 -- no text is no step
-empty-fault : readStep [] ≡ fault
+pub no-step : readStep [] ≡ fault
 unfolding readStep readLines stepKinds afterKey
-empty-fault = refl
-
--- written steps, up to n
-pub steps-read : (n : ℕ) (ss : List Step) → AllWritable ss → length ss ≤ n → readSteps n (stepsText ss) ≡ read ss []
-steps-read = many-read (length stepKinds + 1) readStep stepText Writable empty-fault step-read step-written
-
--- steps that are read
-pub steps-written : (n : ℕ) (ss : List Step) (t rest : List ℕ) → readSteps n t ≡ read ss rest
-    → (t ≡ stepsText ss) × (rest ≡ []) × AllWritable ss × (length ss ≤ n)
-steps-written = many-written (length stepKinds + 1) readStep stepText Writable empty-fault step-read step-written
+no-step = refl

@@ -8,10 +8,13 @@ use Rattle.format.specs.Line.{Read, read, faultAt, next, mapped}
 use Rattle.format.specs.Sheet.{sheetKinds, readFront, sheetText}
 use Rattle.format.specs.Step.{stepKinds, readStep, stepText}
 
--- what a plan holds: the credentials at the start, and the steps
-pub record Plan : Type 0 where
+-- what a plan with steps of some kind holds: the credentials at the start, and the steps
+pub record PlanOf (A : Type 0) : Type 0 where
   pub start : Credentials
-  pub steps : List Step
+  pub steps : List A
+
+abbrev pub Plan : Type 0
+Plan = PlanOf Step
 
 -- ---- written
 
@@ -20,11 +23,12 @@ unfoldable pub manyText : {A : Type 0} → (A → List ℕ) → List A → List 
 manyText text [] = []
 manyText text (x ∷ xs) = text x ++ manyText text xs
 
-abbrev pub stepsText : List Step → List ℕ
-stepsText ss = manyText stepText ss
+-- the sheet, then the steps
+unfoldable pub planTextBy : {A : Type 0} → (A → List ℕ) → PlanOf A → List ℕ
+planTextBy text p = sheetText (p .start) ++ manyText text (p .steps)
 
-unfoldable pub planText : Plan → List ℕ
-planText p = sheetText (p .start) ++ stepsText (p .steps)
+abbrev pub planText : Plan → List ℕ
+planText p = planTextBy stepText p
 
 -- ---- read
 
@@ -35,14 +39,18 @@ readMany lines one zero (b ∷ t) = faultAt 1
 readMany lines one (suc n) [] = read [] []
 readMany lines one (suc n) (b ∷ t) = next lines (one (b ∷ t)) (λ x rest. mapped (λ xs. x ∷ xs) (readMany lines one n rest))
 
--- up to n steps of five lines each
-abbrev pub readSteps : ℕ → List ℕ → Read (List Step)
-readSteps n t = readMany (length stepKinds + 1) readStep n t
-
 -- the most steps of a plan
 abbrev pub MOST-STEPS : ℕ
 MOST-STEPS = 256
 
--- a whole text that is to be a plan
-unfoldable pub readPlan : List ℕ → Read Plan
-readPlan t = next (length sheetKinds) (readFront t) (λ c rest. mapped (λ ss. record { start = c; steps = ss }) (readSteps MOST-STEPS rest))
+-- a whole text that is to be a plan with steps of so many lines each
+unfoldable pub readPlanBy : {A : Type 0} → ℕ → (List ℕ → Read A) → List ℕ → Read (PlanOf A)
+readPlanBy lines one t =
+    next (length sheetKinds) (readFront t) (λ c rest. mapped (λ ss. record { start = c; steps = ss }) (readMany lines one MOST-STEPS rest))
+
+-- up to n steps of five lines each, and a plan of them
+abbrev pub readSteps : ℕ → List ℕ → Read (List Step)
+readSteps n t = readMany (length stepKinds + 1) readStep n t
+
+abbrev pub readPlan : List ℕ → Read Plan
+readPlan t = readPlanBy (length stepKinds + 1) readStep t

@@ -9,7 +9,7 @@ use Rattle.rules.specs.Run.{Result, run, left}
 use Rattle.format.specs.declared.Outcome.{Outcome}
 use Rattle.format.specs.Line.{Kind, kind, decimal, hex, linesText, Read, read, faultAt}
 use Rattle.format.specs.Sheet.{sheetText}
-use Rattle.format.specs.Plan.{Plan, readPlan}
+use Rattle.format.specs.Plan.{PlanOf, Plan, readPlan}
 
 -- the three lines of a step's result: code in decimal, value in 16 hex digits, cause in decimal ("Why it was refused")
 unfoldable pub resultKinds : List Kind
@@ -33,13 +33,13 @@ pub data Verdict : Type 0 where
   malformed : ℕ → Verdict
   invalid : Verdict
 
--- 70 anywhere in the text comes before 72
-abbrev pub judged : Read Plan → Verdict
-judged (read p t) = cond (valid (p .start)) (report (reportText p)) invalid
-judged (faultAt line) = malformed line
+-- of a plan with steps of some kind, by its report: 70 anywhere in the text comes before 72
+abbrev pub judgedBy : {A : Type 0} → (PlanOf A → List ℕ) → Read (PlanOf A) → Verdict
+judgedBy text (read p t) = cond (valid (p .start)) (report (text p)) invalid
+judgedBy text (faultAt line) = malformed line
 
 unfoldable pub verdict : List ℕ → Verdict
-verdict text = judged (readPlan text)
+verdict text = judgedBy reportText (readPlan text)
 
 -- the runner's code, line and report length, with a buffer of some length: 28 comes last
 abbrev pub outcome : Verdict → ℕ → Outcome

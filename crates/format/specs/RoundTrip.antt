@@ -13,7 +13,7 @@ use Rattle.format.specs.declared.SheetReading.the-variants.{Sheet}
 use Rattle.format.specs.Line.{read}
 use Rattle.format.specs.Sheet.{sheetText, readSheet}
 use Rattle.format.specs.Step.{stepText, readStep}
-use Rattle.format.specs.Plan.{Plan, planText, readPlan}
+use Rattle.format.specs.Plan.{PlanOf, Plan, planText, readPlan}
 
 -- sheets
 pub record SheetRoundTrip : Type 0 where
@@ -59,15 +59,14 @@ unfoldable pub Every : {A : Type 0} → (A → Type 0) → List A → Type 0
 Every P [] = Unit
 Every P (x ∷ xs) = P x × Every P xs
 
--- every step is what a step can hold
-abbrev pub AllWritable : List Step → Type 0
-AllWritable ss = Every Writable ss
-
--- what a plan can hold: such a start, and at most 256 such steps
-pub record WritablePlan (p : Plan) : Type 0 where
+-- what a plan can hold, where a step can hold so much: such a start, and at most 256 such steps
+pub record WritablePlanOf {A : Type 0} (Fit : A → Type 0) (p : PlanOf A) : Type 0 where
   pub start : WritableSheet (p .start)
-  pub steps : AllWritable (p .steps)
+  pub steps : Every Fit (p .steps)
   pub count : length (p .steps) ≤ 256
+
+abbrev pub WritablePlan : Plan → Type 0
+WritablePlan p = WritablePlanOf Writable p
 
 -- plans: a text is read as a plan exactly if it is that plan's written form
 pub record PlanRoundTrip : Type 0 where

@@ -14,7 +14,7 @@ use Rattle.credentials.specs.declared.Credentials.{Credentials}
 use Rattle.rules.specs.Run.{Result, run}
 use Rattle.format.specs.Line.{decimalText, linesText, read, faultAt}
 use Rattle.format.specs.Sheet.{idKinds, uidKinds, gidKinds, setKinds, flagKinds, sheetKinds, sheetText, readFront}
-use Rattle.format.specs.Plan.{readSteps, readPlan}
+use Rattle.format.specs.Plan.{readSteps, readPlanBy}
 use Rattle.format.specs.Report.{resultKinds, resultText, resultsText, reportText, report, malformed, invalid, verdict, outcome, buffer}
 use Rattle.format.specs.declared.Outcome.{Outcome}
 use Rattle.format.proofs.Lengths.{length-result-lines}
@@ -112,17 +112,17 @@ sheet-put table c at old e v = buffer-by-the-table table c at old e ∙ rw v
 
 module _ (text : List ℕ) where
   pub front-at-fault : (line : ℕ) → readFront text ≡ faultAt line → verdict text ≡ malformed line
-  unfolding verdict readPlan
+  unfolding verdict readPlanBy
   front-at-fault line h = rw h
 
   pub steps-at-fault : (c : Credentials) (rest : List ℕ) (line : ℕ) → readFront text ≡ read c rest → ranSteps 256 c rest ≡ faultAt line
       → verdict text ≡ malformed (15 + line)
-  unfolding verdict readPlan ranSteps sheetKinds idKinds uidKinds gidKinds setKinds flagKinds
+  unfolding verdict readPlanBy ranSteps sheetKinds idKinds uidKinds gidKinds setKinds flagKinds
   steps-at-fault c rest line h g = rw (h, mapped-fault (ranOf c) (readSteps 256 rest) line g)
 
   pub plan-ran : (c : Credentials) (rest : List ℕ) (x : Ran Credentials) → readFront text ≡ read c rest → ranSteps 256 c rest ≡ read x []
       → verdict text ≡ cond (valid c) (report (answersText (x .codes) (x .values) (x .causes) ++ sheetText (x .last))) invalid
-  unfolding verdict readPlan ranSteps reportText
+  unfolding verdict readPlanBy ranSteps reportText
   plan-ran c rest x h g =
       let s = mapped-told x [] (ranOf c) (readSteps 256 rest) g in
       rw (h, s .1, results-text (run c (s .0)))

@@ -7,10 +7,10 @@ use Rattle.credentials.specs.Validity.{valid}
 use Rattle.credentials.specs.declared.Credentials.{Credentials}
 use Rattle.format.specs.Line.{linesText, Read, read, faultAt}
 use Rattle.format.specs.Sheet.{idKinds, uidKinds, gidKinds, setKinds, flagKinds, sheetKinds, readFront}
-use Rattle.format.specs.Plan.{manyText}
+use Rattle.format.specs.Plan.{manyText, readPlanBy}
 use Rattle.format.specs.Report.{resultKinds, report, malformed, invalid}
 use Rattle.format.proofs.Reading.{mapped-told, mapped-fault}
-use Rattle.slot_format.specs.SlotPlan.{readSlotSteps, readSlotPlan}
+use Rattle.slot_format.specs.SlotPlan.{readSlotSteps}
 use Rattle.slot_format.specs.SlotReport.{slotResultText, tableText, slotReportText, slotVerdict}
 use Rattle.threads.specs.Step.{runIn}
 use Rattle.threads.specs.Table.{fresh}
@@ -36,17 +36,17 @@ module _ (r : SlotStepsRun) (codes values causes : List ℕ) (x : Read (Ran Thre
 
 module _ (text : List ℕ) where
   pub front-at-fault : (line : ℕ) → readFront text ≡ faultAt line → slotVerdict text ≡ malformed line
-  unfolding slotVerdict readSlotPlan
+  unfolding slotVerdict readPlanBy
   front-at-fault line h = rw h
 
   pub steps-at-fault : (c : Credentials) (rest : List ℕ) (line : ℕ) → readFront text ≡ read c rest → ranSlotSteps 256 (fresh c) rest ≡ faultAt line
       → slotVerdict text ≡ malformed (15 + line)
-  unfolding slotVerdict readSlotPlan ranSlotSteps sheetKinds idKinds uidKinds gidKinds setKinds flagKinds
+  unfolding slotVerdict readPlanBy ranSlotSteps sheetKinds idKinds uidKinds gidKinds setKinds flagKinds
   steps-at-fault c rest line h g = rw (h, mapped-fault (slotRanOf (fresh c)) (readSlotSteps 256 rest) line g)
 
   pub plan-ran : (c : Credentials) (rest : List ℕ) (x : Ran Threads) → readFront text ≡ read c rest → ranSlotSteps 256 (fresh c) rest ≡ read x []
       → slotVerdict text ≡ cond (valid c) (report (answersText (x .codes) (x .values) (x .causes) ++ tableText (x .last))) invalid
-  unfolding slotVerdict readSlotPlan ranSlotSteps slotReportText
+  unfolding slotVerdict readPlanBy ranSlotSteps slotReportText
   plan-ran c rest x h g =
       let s = mapped-told x [] (slotRanOf (fresh c)) (readSlotSteps 256 rest) g in
       rw (h, s .1, results-text (runIn (fresh c) (s .0)))

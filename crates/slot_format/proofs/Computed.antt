@@ -12,17 +12,17 @@ use Rattle.rules.specs.Call.{answer}
 use Rattle.format.specs.Line.{hexText, decimalOf, decimalText, keyedText, linesText, readHex, readDigits, readDecimal, afterKey, readLines}
 use Rattle.format.specs.Sheet.{idKinds, uidKinds, gidKinds, setKinds, flagKinds, sheetKinds, sheetText, readFront}
 use Rattle.format.specs.Step.{stepKinds, readPairs, readStep}
-use Rattle.format.specs.Plan.{manyText, readMany}
+use Rattle.format.specs.Plan.{manyText, readMany, readPlanBy}
 use Rattle.format.specs.Report.{resultKinds}
 use Rattle.format.specs.Texts.{times}
 use Rattle.threads.specs.Table.{lowestFree}
 use Rattle.threads.specs.Step.{unlessRefused, decided, forked, stepIn, runIn, ends}
-use Rattle.slot_format.specs.SlotPlan.{readSlotStep, readSlotPlan}
+use Rattle.slot_format.specs.SlotPlan.{readSlotStep}
 use Rattle.slot_format.specs.SlotReport.{slotResultText, slotText, slotsText, slotReportText, slotVerdict}
 use Rattle.slot_format.specs.Texts.{answers, SlotTextsHold}
 
 pub slot-texts-hold : SlotTextsHold
-unfolding has minus outside wordAt fileOf lengthOf reading unreadable version2 valid number ignoresSetId ignoresAttribute fileRead inForce effectiveId launchedIds rootCounts countedSet counted changesEffective isPrivileged launchedAmbient gained launchedEffective launchedSets fallsShort launched launch setuidAllowed setuidIds setuidOn setuid usesOne known decode answer hexText decimalOf decimalText keyedText linesText readHex readDigits readDecimal afterKey readLines idKinds uidKinds gidKinds setKinds flagKinds sheetKinds sheetText readFront stepKinds readPairs readStep readMany resultKinds times lowestFree unlessRefused decided forked stepIn runIn ends manyText readSlotStep readSlotPlan slotResultText slotText slotsText slotReportText slotVerdict answers
+unfolding has minus outside wordAt fileOf lengthOf reading unreadable version2 valid number ignoresSetId ignoresAttribute fileRead inForce effectiveId launchedIds rootCounts countedSet counted changesEffective isPrivileged launchedAmbient gained launchedEffective launchedSets fallsShort launched launch setuidAllowed setuidIds setuidOn setuid usesOne known decode answer hexText decimalOf decimalText keyedText linesText readHex readDigits readDecimal afterKey readLines idKinds uidKinds gidKinds setKinds flagKinds sheetKinds sheetText readFront stepKinds readPairs readStep readMany resultKinds times lowestFree unlessRefused decided forked stepIn runIn ends manyText readSlotStep readPlanBy slotResultText slotText slotsText slotReportText slotVerdict answers
 slot-texts-hold =
     record {
       no-steps = refl;

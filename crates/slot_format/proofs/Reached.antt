@@ -13,8 +13,8 @@ use Rattle.rules.specs.Run.{Step}
 use Rattle.format.specs.Line.{bytes, decimalOf, decimalText, hexText, keyedText, linesText, read, readHex, readDigits, readDecimal, afterKey, readLines}
 use Rattle.format.specs.Sheet.{idKinds, uidKinds, gidKinds, setKinds, flagKinds, sheetKinds, sheetText, readFront}
 use Rattle.format.specs.Step.{stepKinds, readPairs, readStep}
-use Rattle.format.specs.Plan.{manyText, readMany}
-use Rattle.format.specs.Report.{resultKinds, report}
+use Rattle.format.specs.Plan.{manyText, readMany, readPlanBy}
+use Rattle.format.specs.Report.{resultKinds, report, judgedBy}
 use Rattle.format.specs.Texts.{times}
 use Rattle.format.proofs.Lengths.{length-keyed}
 use Rattle.format.proofs.Reached.{start, sheet, sheet-length, sheet-written}
@@ -22,7 +22,7 @@ use Rattle.threads.specs.Step.{SlotStep, unlessRefused, decided, forked, stepIn
 use Rattle.threads.specs.Table.{held, inUse, lowestFree, fresh}
 use Rattle.threads.specs.declared.Threads.{Threads}
 use Rattle.slot_format.specs.SlotPlan.{slotKind, readSlotStep, SlotPlan, readSlotPlan}
-use Rattle.slot_format.specs.SlotReport.{slotResultText, slotText, slotsText, tableText, slotReportText, slotJudged, slotVerdict}
+use Rattle.slot_format.specs.SlotReport.{slotResultText, slotText, slotsText, tableText, slotReportText, slotVerdict}
 use Rattle.slot_format.specs.Longest.{longestSlotPlan, longestSlotReport}
 
 -- ---- a longest slot plan, and its text
@@ -43,7 +43,7 @@ abbrev pub text : List ℕ
 text = sheet ++ times 256 stepBytes
 
 pub text-read : readSlotPlan text ≡ read plan []
-unfolding times readHex readDigits readDecimal afterKey readLines idKinds uidKinds gidKinds setKinds flagKinds sheetKinds readFront stepKinds readPairs readStep readMany readSlotStep readSlotPlan
+unfolding times readHex readDigits readDecimal afterKey readLines idKinds uidKinds gidKinds setKinds flagKinds sheetKinds readFront stepKinds readPairs readStep readMany readSlotStep readPlanBy
 text-read = refl
 
 pub text-length : length text ≡ longestSlotPlan
@@ -66,12 +66,12 @@ abbrev pub reported-text : List ℕ
 reported-text = sheet ++ times 95 forkBytes ++ times 161 stepBytes
 
 reported-read : readSlotPlan reported-text ≡ read reported []
-unfolding times readHex readDigits readDecimal afterKey readLines idKinds uidKinds gidKinds setKinds flagKinds sheetKinds readFront stepKinds readPairs readStep readMany readSlotStep readSlotPlan
+unfolding times readHex readDigits readDecimal afterKey readLines idKinds uidKinds gidKinds setKinds flagKinds sheetKinds readFront stepKinds readPairs readStep readMany readSlotStep readPlanBy
 reported-read = refl
 
 pub reported-verdict : slotVerdict reported-text ≡ report (slotReportText reported)
 unfolding valid slotVerdict
-reported-verdict = ap slotJudged reported-read
+reported-verdict = ap (judgedBy slotReportText) reported-read
 
 -- all slots are in use at the end, each with the credentials of the start
 abbrev full : Threads

@@ -15,7 +15,8 @@ use Rattle.format.specs.Line.{decimalOf, decimalText, keyedText}
 use Rattle.format.specs.Sheet.{sheetText}
 use Rattle.format.specs.Plan.{manyText}
 use Rattle.format.proofs.Lengths.{at-most, length-keyed, length-result-lines}
-use Rattle.format.proofs.Longest.{length-sheet, three-digits}
+use Rattle.format.proofs.Longest.{three-digits}
+use Rattle.format.proofs.Plans.{length-sheet}
 use Rattle.format.proofs.Sheets.{valid-writable}
 use Rattle.threads.specs.Step.{SlotStep, answered, forked, stepIn, runIn, ends}
 use Rattle.threads.specs.Table.{SLOTS, held, inUse, lowestFree, fresh}

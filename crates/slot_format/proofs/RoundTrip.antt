@@ -1,24 +1,17 @@
 -- Slot plans written and read, each from the other. Assumes nothing.
 use mathlib.Core.Path.{_≡_, refl, sym, ap, _∙_}
-use mathlib.Core.List.{List, [], _∷_, _++_, append-assoc}
-use Prim.Native.Nat.{ℕ, _+_, _≤_}
-use native.Mathlib.Omega.{arith}
-use lib.ListN.{length}
-use Rattle.rules.specs.Run.{Step}
-use Rattle.format.specs.Line.{read, fault, mapped, lineText, readLine, readLines, afterKey}
-use Rattle.format.specs.Sheet.{sheetText, readFront}
-use Rattle.format.specs.Step.{stepKinds, stepText, readStep}
-use Rattle.format.specs.Plan.{manyText, MOST-STEPS}
-use Rattle.format.specs.RoundTrip.{Every}
-use Rattle.format.proofs.Many.{many-read, many-written}
+use mathlib.Core.List.{List, [], _++_, append-assoc}
+use Prim.Native.Nat.{ℕ}
+use Rattle.format.specs.Line.{read, fault, mapped, lineText, readLine, afterKey}
+use Rattle.format.specs.Step.{stepText, readStep}
+use Rattle.format.proofs.Plans.{plan-read, plan-written}
 use Rattle.format.proofs.Reading.{next-told, mapped-told}
 use Rattle.format.proofs.ReadWritten.{keyed-written}
 use Rattle.format.proofs.RoundTrip.{step-round-trip}
-use Rattle.format.proofs.Sheets.{front-read, front-written}
 use Rattle.format.proofs.WrittenRead.{keyed-read}
 use Rattle.threads.specs.Step.{SlotStep}
-use Rattle.slot_format.specs.SlotPlan.{slotKind, slotStepText, readSlotStep, readSlotSteps, SlotPlan, slotPlanText, readSlotPlan}
-use Rattle.slot_format.specs.RoundTrip.{WritableSlotStep, WritableSlotPlan, SlotRoundTrip}
+use Rattle.slot_format.specs.SlotPlan.{slotKind, slotStepText, readSlotStep, slotStepLines}
+use Rattle.slot_format.specs.RoundTrip.{WritableSlotStep, SlotRoundTrip}
 
 -- ---- one step
 
@@ -47,37 +40,15 @@ step-written text s rest e =
 -- ---- slot plans
 
 -- no text is no step
-empty-fault : readSlotStep [] ≡ fault
+no-step : readSlotStep [] ≡ fault
 unfolding readSlotStep afterKey
-empty-fault = refl
-
-steps-read : (n : ℕ) (ss : List SlotStep) → Every WritableSlotStep ss → length ss ≤ n → readSlotSteps n (manyText slotStepText ss) ≡ read ss []
-steps-read = many-read (length stepKinds + 2) readSlotStep slotStepText WritableSlotStep empty-fault step-read step-written
-
-steps-written : (n : ℕ) (ss : List SlotStep) (t rest : List ℕ) → readSlotSteps n t ≡ read ss rest
-    → (t ≡ manyText slotStepText ss) × (rest ≡ []) × Every WritableSlotStep ss × (length ss ≤ n)
-steps-written = many-written (length stepKinds + 2) readSlotStep slotStepText WritableSlotStep empty-fault step-read step-written
-
-plan-read : (p : SlotPlan) → WritableSlotPlan p → readSlotPlan (slotPlanText p) ≡ read p []
-unfolding readSlotPlan slotPlanText
-plan-read p w =
-    rw (front-read (p .start) (manyText slotStepText (p .steps)) (w .start), steps-read MOST-STEPS (p .steps) (w .steps) (omega (arith, w .count)))
-
-plan-written : (text : List ℕ) (p : SlotPlan) (rest : List ℕ) → readSlotPlan text ≡ read p rest → (text ≡ slotPlanText p) × (rest ≡ []) × WritableSlotPlan p
-unfolding readSlotPlan slotPlanText
-plan-written text p rest e =
-    let n = next-told p rest _ (readFront text) (λ c t. mapped (λ ss. record { start = c; steps = ss }) (readSlotSteps MOST-STEPS t)) e in
-    let m = mapped-told p rest (λ ss. record { start = n .0; steps = ss }) (readSlotSteps MOST-STEPS (n .1)) (n .3) in
-    let f = front-written (n .0) text (n .1) (n .2) in
-    let s = steps-written MOST-STEPS (m .0) (n .1) rest (m .1) in
-    rw (← (m .2)) (
-      f .0 ∙ ap (λ (t : List ℕ). sheetText (n .0) ++ t) (s .0),
-      s .1,
-      record { start = f .1; steps = s .2; count = omega (arith, s .3) },
-    )
-
--- ---- the statement
+no-step = refl
 
 pub slot-round-trip : SlotRoundTrip
 slot-round-trip =
-    record { step-written-read = step-read; step-read-written = step-written; written-read = plan-read; read-written = plan-written }
+    record {
+      step-written-read = step-read;
+      step-read-written = step-written;
+      written-read = plan-read slotStepLines readSlotStep slotStepText WritableSlotStep no-step step-read step-written;
+      read-written = plan-written slotStepLines readSlotStep slotStepText WritableSlotStep no-step step-read step-written;
+    }

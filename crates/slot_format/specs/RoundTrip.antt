@@ -2,9 +2,8 @@
 use Prim.Native.Nat.{ℕ, _≤_}
 use mathlib.Core.Path.{_≡_}
 use mathlib.Core.List.{List, [], _++_}
-use lib.ListN.{length}
 use Rattle.format.specs.Line.{read}
-use Rattle.format.specs.RoundTrip.{Writable, WritableSheet, Every}
+use Rattle.format.specs.RoundTrip.{Writable, WritablePlanOf}
 use Rattle.threads.specs.Step.{SlotStep}
 use Rattle.slot_format.specs.SlotPlan.{slotStepText, readSlotStep, SlotPlan, slotPlanText, readSlotPlan}
 
@@ -13,11 +12,9 @@ pub record WritableSlotStep (s : SlotStep) : Type 0 where
   pub slot : s .slot ≤ 99
   pub step : Writable (s .step)
 
--- what a slot plan can hold: a sheet, and at most 256 such steps
-pub record WritableSlotPlan (p : SlotPlan) : Type 0 where
-  pub start : WritableSheet (p .start)
-  pub steps : Every WritableSlotStep (p .steps)
-  pub count : length (p .steps) ≤ 256
+-- what a slot plan can hold: what a plan can, with such steps
+abbrev pub WritableSlotPlan : SlotPlan → Type 0
+WritableSlotPlan p = WritablePlanOf WritableSlotStep p
 
 pub record SlotRoundTrip : Type 0 where
   -- a text is read as a step exactly if it begins with that step's written form

@@ -2,11 +2,9 @@
 use Prim.Native.Nat.{ℕ, _+_}
 use mathlib.Core.List.{List, _++_}
 use lib.ListN.{length}
-use Rattle.credentials.specs.declared.Credentials.{Credentials}
 use Rattle.format.specs.Line.{Kind, kind, decimal, lineText, Read, next, mapped, readLine}
-use Rattle.format.specs.Sheet.{sheetKinds, sheetText, readFront}
 use Rattle.format.specs.Step.{stepKinds, stepText, readStep}
-use Rattle.format.specs.Plan.{manyText, readMany, MOST-STEPS}
+use Rattle.format.specs.Plan.{PlanOf, planTextBy, readMany, readPlanBy}
 use Rattle.threads.specs.Step.{SlotStep}
 
 -- the line that names a slot, written as a call's number is: 0 to 99
@@ -14,9 +12,8 @@ abbrev pub slotKind : Kind
 slotKind = kind "slot=" (decimal 99)
 
 -- what a slot plan holds: the credentials of slot 0 at the start, and the steps
-pub record SlotPlan : Type 0 where
-  pub start : Credentials
-  pub steps : List SlotStep
+abbrev pub SlotPlan : Type 0
+SlotPlan = PlanOf SlotStep
 
 -- ---- written
 
@@ -24,8 +21,8 @@ pub record SlotPlan : Type 0 where
 unfoldable pub slotStepText : SlotStep → List ℕ
 slotStepText s = lineText slotKind (s .slot) ++ stepText (s .step)
 
-unfoldable pub slotPlanText : SlotPlan → List ℕ
-slotPlanText p = sheetText (p .start) ++ manyText slotStepText (p .steps)
+abbrev pub slotPlanText : SlotPlan → List ℕ
+slotPlanText p = planTextBy slotStepText p
 
 -- ---- read
 
@@ -33,10 +30,13 @@ slotPlanText p = sheetText (p .start) ++ manyText slotStepText (p .steps)
 unfoldable pub readSlotStep : List ℕ → Read SlotStep
 readSlotStep t = next 1 (readLine slotKind t) (λ slot rest. mapped (λ x. record { slot = slot; step = x }) (readStep rest))
 
--- up to n steps of six lines each to the end of the text; one more is a fault at its first line, as in a plan
-abbrev pub readSlotSteps : ℕ → List ℕ → Read (List SlotStep)
-readSlotSteps n t = readMany (length stepKinds + 2) readSlotStep n t
+-- how many lines a step has
+abbrev pub slotStepLines : ℕ
+slotStepLines = length stepKinds + 2
 
--- a whole text that is to be a slot plan; as many steps as a plan has at most
-unfoldable pub readSlotPlan : List ℕ → Read SlotPlan
-readSlotPlan t = next (length sheetKinds) (readFront t) (λ c rest. mapped (λ ss. record { start = c; steps = ss }) (readSlotSteps MOST-STEPS rest))
+-- up to n steps, and a slot plan of them: as a plan is read, and as many steps at most
+abbrev pub readSlotSteps : ℕ → List ℕ → Read (List SlotStep)
+readSlotSteps n t = readMany slotStepLines readSlotStep n t
+
+abbrev pub readSlotPlan : List ℕ → Read SlotPlan
+readSlotPlan t = readPlanBy slotStepLines readSlotStep t

@@ -3,12 +3,11 @@
 use Prim.Native.Nat.{ℕ, zero, suc}
 use mathlib.Core.List.{List, [], _∷_, _++_}
 use mathlib.Core.Bool.{cond}
-use Rattle.credentials.specs.Validity.{valid}
 use Rattle.credentials.specs.declared.Credentials.{Credentials}
-use Rattle.format.specs.Line.{lineText, linesText, Read, read, faultAt}
+use Rattle.format.specs.Line.{lineText, linesText}
 use Rattle.format.specs.Sheet.{sheetText}
 use Rattle.format.specs.Plan.{manyText}
-use Rattle.format.specs.Report.{resultKinds, Verdict, report, malformed, invalid}
+use Rattle.format.specs.Report.{resultKinds, Verdict, judgedBy}
 use Rattle.threads.specs.Step.{runIn, ends}
 use Rattle.threads.specs.Table.{SLOTS, held, inUse, fresh}
 use Rattle.threads.specs.declared.SlotResult.{SlotResult}
@@ -36,10 +35,6 @@ tableText table = slotsText table 0 SLOTS
 unfoldable pub slotReportText : SlotPlan → List ℕ
 slotReportText p = manyText slotResultText (runIn (fresh (p .start)) (p .steps)) ++ tableText (ends (fresh (p .start)) (p .steps))
 
--- as a whole 70 anywhere in the text comes before 72, which is asked of the sheet
-abbrev pub slotJudged : Read SlotPlan → Verdict
-slotJudged (read p t) = cond (valid (p .start)) (report (slotReportText p)) invalid
-slotJudged (faultAt line) = malformed line
-
+-- what a slot plan's text comes to, before the buffer is looked at: as a whole 70, then 72, which is asked of the sheet
 unfoldable pub slotVerdict : List ℕ → Verdict
-slotVerdict text = slotJudged (readSlotPlan text)
+slotVerdict text = judgedBy slotReportText (readSlotPlan text)
