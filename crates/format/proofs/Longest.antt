@@ -1,9 +1,9 @@
 -- How long sheets, steps, plans and reports are at most, and that reading a plan needs no more than one byte past that. Assumes nothing.
 use mathlib.Core.Path.{_≡_, refl, sym, ap, _∙_}
 use mathlib.Core.Logic.{⊎-elim}
-use mathlib.Core.Bool.{Bool, true, false, cond}
+use mathlib.Core.Bool.{true}
 use mathlib.Core.List.{List, [], _∷_, _++_}
-use Prim.Native.Nat.{ℕ, zero, suc, _+_, _*_, _<_, _≤_}
+use Prim.Native.Nat.{ℕ, _+_, _*_, _<_, _≤_}
 use native.Mathlib.Omega.{arith}
 use lib.ListN.{length, take, drop, length-append, take-append-drop}
 use lib.Seq.{length-take-le, take-all}
@@ -15,19 +15,19 @@ use Rattle.rules.specs.declared.Cause.{Cause}
 use Rattle.rules.specs.declared.Cause.the-variants.{CapabilityNotEffective, InheritableBeyondPermitted, InheritableBeyondBounding, PermittedGrows, EffectiveBeyondPermitted, NotInPermittedAndInheritable, AmbientRaiseForbidden, LockUndone, LockedFlagChanged, IdNotAllowed, LaunchFallsShort}
 use Rattle.rules.specs.Answers.{cause, causeNumber, code, value}
 use Rattle.rules.specs.Call.{answer}
-use Rattle.rules.specs.Run.{Step, Result, result, run, left}
+use Rattle.rules.specs.Run.{Step, result, run, left}
 use Rattle.rules.proofs.Demand3.{demand-3}
 use Rattle.format.specs.declared.SheetReading.the-variants.{Sheet, Malformed}
 use Rattle.format.specs.Line.{decimalText, linesText, Read, read, faultAt, readLines}
-use Rattle.format.specs.Sheet.{idKinds, uidKinds, gidKinds, setKinds, flagKinds, sheetKinds, sheetValues, sheetText, credentialsOf, readFront, wholeSheet, readSheet}
+use Rattle.format.specs.Sheet.{sheetKinds, sheetText, credentialsOf, readFront, wholeSheet, readSheet}
 use Rattle.format.specs.Step.{stepKinds, attributeKey, attributeText, stepText, readAttribute, stepOf, readStep}
-use Rattle.format.specs.Plan.{Plan, readPlan}
+use Rattle.format.specs.Plan.{Plan, stepLines, readPlan}
 use Rattle.format.specs.Report.{resultText, resultsText, reportText, report, judgedBy, verdict}
 use Rattle.format.specs.RoundTrip.{Writable}
 use Rattle.format.specs.Longest.{longestSheet, longestPlan, longestReport, Longest}
 use Rattle.format.proofs.Alike.{Alike, value-alike, mapped-alike, next-alike, lines-alike, attribute-alike}
 use Rattle.format.proofs.Decimals.{below-or-not}
-use Rattle.format.proofs.Lengths.{length-one, at-most, mostLines, length-lines, length-result-lines, length-attribute}
+use Rattle.format.proofs.Lengths.{at-most, mostLines, length-lines, length-result-lines, length-attribute}
 use Rattle.format.proofs.Plans.{most-sheet, length-sheet, length-by, length-judged, plan-alike}
 use Rattle.format.proofs.Sheets as Sheets
 use Rattle.format.proofs.Steps as Steps
@@ -143,7 +143,7 @@ cut-at f n h text =
 -- a text that is cut one byte after what a plan has at most
 cut : (text : List ℕ) → verdict (take 30749 text) ≡ verdict text
 unfolding verdict
-cut = cut-at verdict 30749 (λ u more h. value-alike more (judgedBy reportText) (λ p t s. refl) (readPlan u) (readPlan (u ++ more)) (plan-alike (length stepKinds + 1) readStep 119 step-alike u more h))
+cut = cut-at verdict 30749 (λ u more h. value-alike more (judgedBy reportText) (λ p t s. refl) (readPlan u) (readPlan (u ++ more)) (plan-alike stepLines readStep 119 step-alike u more h))
 
 -- ---- a sheet that is cut
 

@@ -1,16 +1,16 @@
 -- Written and read, each from the other: sheets, steps and plans. Assumes nothing.
 use mathlib.Core.Path.{_≡_, refl, sym, ap, _∙_}
-use mathlib.Core.List.{List, [], _∷_, _++_, append-nil}
+use mathlib.Core.List.{List, [], _∷_, append-nil}
 use mathlib.Core.Bool.{Bool, true, false, cond}
-use Prim.Native.Nat.{ℕ, _+_}
+use Prim.Native.Nat.{ℕ}
 use native.Mathlib.Omega.{arith}
-use lib.ListN.{length}
 use Rattle.credentials.specs.Validity.{valid}
 use Rattle.credentials.specs.declared.Credentials.{Credentials}
 use Rattle.format.specs.declared.SheetReading.the-variants.{Sheet, Invalid}
 use Rattle.format.specs.Line.{Read, read, faultAt}
 use Rattle.format.specs.Sheet.{sheetText, readFront, wholeSheet, readSheet}
-use Rattle.format.specs.Step.{stepKinds, stepText, readStep}
+use Rattle.format.specs.Step.{stepText, readStep}
+use Rattle.format.specs.Plan.{stepLines}
 use Rattle.format.specs.RoundTrip.{SheetRoundTrip, StepRoundTrip, Writable, PlanRoundTrip}
 use Rattle.format.proofs.Plans.{plan-read, plan-written}
 use Rattle.format.proofs.Sheets.{front-read, front-written, valid-writable}
@@ -58,6 +58,6 @@ step-round-trip = record { written-read = step-read; read-written = step-written
 pub plan-round-trip : PlanRoundTrip
 plan-round-trip =
     record {
-      written-read = plan-read (length stepKinds + 1) readStep stepText Writable no-step step-read step-written;
-      read-written = plan-written (length stepKinds + 1) readStep stepText Writable no-step step-read step-written;
+      written-read = plan-read stepLines readStep stepText Writable no-step step-read step-written;
+      read-written = plan-written stepLines readStep stepText Writable no-step step-read step-written;
     }

@@ -48,9 +48,13 @@ unfoldable pub readPlanBy : {A : Type 0} → ℕ → (List ℕ → Read A) → L
 readPlanBy lines one t =
     next (length sheetKinds) (readFront t) (λ c rest. mapped (λ ss. record { start = c; steps = ss }) (readMany lines one MOST-STEPS rest))
 
--- up to n steps of five lines each, and a plan of them
+-- how many lines a step has
+abbrev pub stepLines : ℕ
+stepLines = length stepKinds + 1
+
+-- up to n steps, and a plan of them
 abbrev pub readSteps : ℕ → List ℕ → Read (List Step)
-readSteps n t = readMany (length stepKinds + 1) readStep n t
+readSteps n t = readMany stepLines readStep n t
 
 abbrev pub readPlan : List ℕ → Read Plan
-readPlan t = readPlanBy (length stepKinds + 1) readStep t
+readPlan t = readPlanBy stepLines readStep t

@@ -1,6 +1,6 @@
 -- The steps of a slot plan, read and run one after the other in one table. Assumes nothing.
 use mathlib.Core.Path.{_≡_, refl, sym, ap, _∙_}
-use mathlib.Core.Bool.{true, false, cond}
+use mathlib.Core.Bool.{true, false}
 use mathlib.Core.List.{List, [], _∷_, _++_}
 use Prim.Native.Nat.{ℕ, _+_, _<_, _≤_}
 use lib.ListN.{length, take, drop}
@@ -15,7 +15,7 @@ use Rattle.threads.specs.Table.{held}
 use Rattle.threads.specs.declared.SlotResult.{SlotResult}
 use Rattle.threads.specs.declared.Threads.{Threads}
 use Rattle.plan.specs.declared.slot_step.SlotLines.{SlotLines}
-use Rattle.plan.specs.Inside.{Ran, numbersOf, slotRanOf, ranSlotSteps, seenSlotStep}
+use Rattle.plan.specs.Inside.{numbersOf, slotRanOf, ranSlotSteps, seenSlotStep}
 use Rattle.plan.proofs.RunLaws.{ranNone, before, grown, many-end, many-full, many-fault, many-step}
 
 none : (table : Threads) → slotRanOf table [] ≡ ranNone table

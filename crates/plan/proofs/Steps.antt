@@ -7,7 +7,7 @@ use Rattle.credentials.specs.declared.Credentials.{Credentials}
 use Rattle.rules.specs.Run.{Step, Result, result, run, lastOf}
 use Rattle.format.specs.Line.{read, faultAt, mapped}
 use Rattle.format.specs.Step.{stepKinds, readStep}
-use Rattle.plan.specs.Inside.{Ran, numbersOf, ranOf, ranSteps}
+use Rattle.plan.specs.Inside.{numbersOf, ranOf, ranSteps}
 use Rattle.plan.proofs.RunLaws.{ranNone, before, grown, many-end, many-full, many-fault, many-step}
 
 none : (c : Credentials) → ranOf c [] ≡ ranNone c

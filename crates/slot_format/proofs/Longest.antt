@@ -4,7 +4,7 @@ use mathlib.Core.List.{List, [], _++_}
 use Prim.Native.Nat.{ℕ, _+_, _≤_}
 use native.Mathlib.Omega.{arith}
 use lib.ListN.{length, take, length-append}
-use Rattle.format.specs.Line.{lineText, read, mapped, readLine}
+use Rattle.format.specs.Line.{lineText, read, readLine}
 use Rattle.format.specs.Step.{stepText, readStep}
 use Rattle.format.specs.Report.{report, judgedBy}
 use Rattle.format.proofs.Alike.{Alike, value-alike, mapped-alike, next-alike, line-alike, keyed}

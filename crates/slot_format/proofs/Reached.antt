@@ -1,15 +1,13 @@
 -- A slot plan that is as long as any, and one whose report is. Assumes nothing.
-use mathlib.Core.Path.{_≡_, refl, sym, ap, _∙_}
-use mathlib.Core.Bool.{Bool, true, false, cond}
+use mathlib.Core.Path.{_≡_, refl, ap, _∙_}
+use mathlib.Core.Bool.{true, false}
 use mathlib.Core.List.{List, [], _++_}
 use Prim.Native.Nat.{ℕ, zero, suc, _+_, _<_}
 use native.Mathlib.Omega.{arith}
 use native.Mathlib.Nat.{le-of-suc-le-suc}
 use lib.ListN.{length, getD, replicate, length-append}
 use Rattle.credentials.specs.Validity.{valid}
-use Rattle.credentials.specs.declared.Credentials.{Credentials}
 use Rattle.rules.specs.Decoding.{usesOne}
-use Rattle.rules.specs.Run.{Step}
 use Rattle.format.specs.Line.{bytes, decimalOf, decimalText, hexText, keyedText, linesText, read, readHex, readDigits, readDecimal, afterKey, readLines}
 use Rattle.format.specs.Sheet.{idKinds, uidKinds, gidKinds, setKinds, flagKinds, sheetKinds, sheetText, readFront}
 use Rattle.format.specs.Step.{stepKinds, readPairs, readStep}

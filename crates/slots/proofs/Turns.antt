@@ -9,7 +9,7 @@ use lib.ListN.{getD, set}
 use lib.Seq.{set-getD}
 use borrow.Author.Tests.{ltb-true}
 use Rattle.credentials.specs.declared.Credentials.{Credentials}
-use Rattle.rules.specs.Answers.{code, value, cause, after}
+use Rattle.rules.specs.Answers.{code, value, cause}
 use Rattle.rules.specs.Run.{Step}
 use Rattle.rules.proofs.Conditions.{cond-cases}
 use Rattle.threads.specs.Step.{SlotStep, decided, refused, forked, carriedOut, stepIn}

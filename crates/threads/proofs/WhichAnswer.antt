@@ -20,7 +20,7 @@ use Rattle.threads.specs.declared.Decision.{Decision}
 use Rattle.threads.specs.declared.Decision.the-variants.{Answered, Forks, Exits}
 use Rattle.threads.specs.declared.SlotResult.{SlotResult}
 use Rattle.threads.specs.declared.Threads.{Threads}
-use Rattle.threads.specs.Table.{SLOTS, empty, held, inUse, withCredentials, withMark, lowestFree}
+use Rattle.threads.specs.Table.{SLOTS, empty, held, inUse, lowestFree}
 use Rattle.threads.specs.Step.{SlotStep, FORK, EXIT, unlessRefused, decided, refused, forked, carriedOut, stepIn}
 use Rattle.threads.specs.Slots.{Sized, Fork, Exit, Calls, bare, Named, Ready, Refused, Full, Called, Forked, Exited}
 use Rattle.threads.proofs.Free.{lowest-free, lowest-below}

@@ -7,7 +7,7 @@ use lib.Dec.{eqb}
 use lib.ListN.{length}
 use Rattle.credentials.specs.Validity.{valid}
 use Rattle.rules.specs.Decoding.{usesNone}
-use Rattle.rules.specs.Run.{Step, result}
+use Rattle.rules.specs.Run.{result}
 use Rattle.threads.specs.declared.SlotResult.{SlotResult}
 use Rattle.threads.specs.declared.Threads.{Threads}
 use Rattle.threads.specs.Table.{SLOTS, held, inUse}

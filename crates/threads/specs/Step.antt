@@ -1,7 +1,7 @@
 -- A step in a slot ("The whole machine, not one thread"): for any table, slot number, call number, operands and attribute bytes, the code, the value, the
 -- cause and the table. And steps one after the other. Assumes nothing.
 use Prim.Native.Nat.{ℕ}
-use mathlib.Core.Bool.{Bool, true, false, cond}
+use mathlib.Core.Bool.{true, false, cond}
 use mathlib.Core.List.{List, [], _∷_}
 use lib.Dec.{eqb, ltb}
 use lib.ListN.{length}
