@@ -5,7 +5,7 @@ use crate::sets;
 use second::Credentials;
 
 /// The longest attribute that a plan can hold.
-const LONGEST: usize = 24;
+pub(crate) const LONGEST: usize = 24;
 /// The longest that the reader by itself is given, but for a few.
 const LONGEST_ALONE: usize = 32;
 

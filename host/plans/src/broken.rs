@@ -1,32 +1,38 @@
-//! Texts that are no plans, or hardly ever: a written plan with one fault put into it.
+//! Texts that are no plans, or hardly ever: a written plan or slot plan with one fault put into it.
 //!
 //! For most kinds of fault the line of refusal 70 is known when the fault is made. For a byte changed anywhere and the like it is not.
 
 mod fault;
 mod line;
+mod lines;
 
 pub use fault::Fault;
+pub(crate) use line::{Steps, SHEET_LINES};
 
 use crate::random::Random;
 use crate::starts::{self, Flaw};
 use crate::{with_steps, Generated, Kind, Plan, MOST_STEPS};
-use line::{Form, SHEET_LINES, STEP_LINES};
+use line::Form;
+use lines::{line_count, line_ends, split};
 use second::Credentials;
-use std::ops::Range;
-
-/// The line of refusal 70 for a 257th step.
-const LINE_OF_STEP_257: usize = SHEET_LINES + STEP_LINES * MOST_STEPS + 1;
-/// The lines of the group IDs, counted from 0.
-const GROUP_LINES: Range<usize> = 4..8;
 
 /// A text with some fault.
 pub(crate) fn broken(random: &mut Random) -> Generated {
-    let fault = if random.one_in(12) { Fault::CutInLine } else { random.pick(&Fault::ALL) };
+    let fault = any_fault(random);
     let valid = !random.one_in(6);
     let plan = plan_to_break(random, fault, valid);
-    let (text, line) = broken_by(random, fault, plan.text());
+    let (text, line) = broken_by(random, fault, plan.text(), Steps::OfPlans);
     let line = line.map(|line| line as u32);
     Generated { text, kind: Kind::Broken { fault, line, valid } }
+}
+
+/// Any of the faults; a cut within a line more often, for every line is to be cut in.
+pub(crate) fn any_fault(random: &mut Random) -> Fault {
+    if random.one_in(12) {
+        Fault::CutInLine
+    } else {
+        random.pick(&Fault::ALL)
+    }
 }
 
 /// A sheet with some fault.
@@ -37,7 +43,7 @@ pub(crate) fn broken_sheet(random: &mut Random) -> Generated {
     let (text, line) = if fault == Fault::Appended && random.one_in(4) {
         (sheet.repeat(2), Some(SHEET_LINES + 1))
     } else {
-        broken_by(random, fault, sheet)
+        broken_by(random, fault, sheet, Steps::OfPlans)
     };
     let line = line.map(|line| line as u32);
     Generated { text, kind: Kind::Broken { fault, line, valid } }
@@ -60,8 +66,8 @@ fn fault_of_a_sheet(random: &mut Random) -> Fault {
     }
 }
 
-// The start may be invalid, for the fault comes before that.
-fn start_to_break(random: &mut Random, valid: bool) -> Credentials {
+/// Credentials to start from. They may be invalid, for the fault comes before that.
+pub(crate) fn start_to_break(random: &mut Random, valid: bool) -> Credentials {
     if valid {
         starts::valid(random)
     } else {
@@ -70,40 +76,36 @@ fn start_to_break(random: &mut Random, valid: bool) -> Credentials {
     }
 }
 
-// A plan to put a fault into, now and then of the most steps.
 fn plan_to_break(random: &mut Random, fault: Fault, valid: bool) -> Plan {
     let start = start_to_break(random, valid);
-    let count = match fault {
+    let count = steps_to_break(random, fault);
+    with_steps(random, start, count)
+}
+
+/// How many steps a plan has that the fault is put into; now and then the most.
+pub(crate) fn steps_to_break(random: &mut Random, fault: Fault) -> usize {
+    match fault {
         Fault::TooManySteps => random.pick(&[257, 257, 258, 300]),
         Fault::Appended if random.one_in(4) => MOST_STEPS,
         _ if random.one_in(30) => random.pick(&[MOST_STEPS - 1, MOST_STEPS]),
         _ => random.below(6),
-    };
-    with_steps(random, start, count)
+    }
 }
 
-// Puts the fault into a plan's text. Gives the text, and the line of the fault if it is known.
-fn broken_by(random: &mut Random, fault: Fault, text: Vec<u8>) -> (Vec<u8>, Option<usize>) {
+/// Puts the fault into the text of a plan or a slot plan. Gives the text, and the line of the fault if it is known.
+pub(crate) fn broken_by(random: &mut Random, fault: Fault, text: Vec<u8>, steps: Steps) -> (Vec<u8>, Option<usize>) {
     match fault {
-        Fault::BlankLine | Fault::LineLost | Fault::LineDoubled | Fault::LinesExchanged => {
-            let (text, line) = lines_moved(random, fault, &text);
-            (text, Some(line))
-        }
         Fault::GroupsLost | Fault::GroupsMoved => {
-            let (text, line) = groups_moved(random, fault, &text);
-            (text, Some(line))
-        }
-        Fault::CutInLine | Fault::CutBetweenLines => {
-            let (text, line) = cut(random, fault, text);
+            let (text, line) = lines::groups_moved(random, fault, &text);
             (text, Some(line))
         }
         Fault::LastNewlineLost => (text[..text.len() - 1].to_vec(), Some(line_count(&text))),
         Fault::CarriageReturn if random.one_in(4) => (with_carriage_returns(&text), Some(1)),
         Fault::Appended => {
             let line = line_count(&text) + 1;
-            (appended(random, text), Some(line))
+            (appended(random, text, steps), Some(line))
         }
-        Fault::TooManySteps => (text, Some(LINE_OF_STEP_257)),
+        Fault::TooManySteps => (text, Some(steps.line_of_step_257())),
         Fault::ByteChanged | Fault::ByteInserted | Fault::ByteDeleted | Fault::BytesChanged => {
             (bytes_changed(random, fault, text), None)
         }
@@ -112,27 +114,56 @@ fn broken_by(random: &mut Random, fault: Fault, text: Vec<u8>) -> (Vec<u8>, Opti
             let end = line_ends(&text)[SHEET_LINES - 1];
             ([&text[..end], &noise(random)].concat(), None)
         }
+        _ => match line_for(random, fault, line_count(&text), steps) {
+            Some(at) => {
+                let (text, line) = broken_at(random, fault, &text, at, steps);
+                (text, Some(line))
+            }
+            None => broken_by(random, fault, [&text, steps.launch()].concat(), steps),
+        },
+    }
+}
+
+/// Puts the fault into the line at that place, counted from 0, or moves the line, or cuts the text in it. Gives the text, and the line of the fault.
+pub(crate) fn broken_at(random: &mut Random, fault: Fault, text: &[u8], at: usize, steps: Steps) -> (Vec<u8>, usize) {
+    match fault {
+        Fault::BlankLine | Fault::LineLost | Fault::LineDoubled | Fault::LinesExchanged => {
+            lines::moved(fault, text, at)
+        }
+        Fault::CutInLine | Fault::CutBetweenLines => lines::cut(random, fault, text, at, steps),
         _ => {
-            let (text, line) = fault_in_a_line(random, fault, &text);
-            (text, Some(line))
+            let lines = split(text);
+            let changed = line::changed(random, fault, Form::of_line(at, steps), lines[at]);
+            ([&lines[..at].concat(), &changed[..], &lines[at + 1..].concat()].concat(), at + 1)
         }
     }
 }
 
-// Where each line ends, just after its newline.
-fn line_ends(text: &[u8]) -> Vec<usize> {
-    text.iter().enumerate().filter(|(_, byte)| **byte == b'\n').map(|(at, _)| at + 1).collect()
+// A line to put the fault into, those of the sheet as often as those of the steps; none for an attribute where there are no steps.
+fn line_for(random: &mut Random, fault: Fault, count: usize, steps: Steps) -> Option<usize> {
+    if matches!(
+        fault,
+        Fault::BlankLine
+            | Fault::LineLost
+            | Fault::LineDoubled
+            | Fault::LinesExchanged
+            | Fault::CutInLine
+            | Fault::CutBetweenLines
+    ) {
+        return Some(any_line(random, count));
+    }
+    loop {
+        // The last two lines of a sheet are the only ones of their forms.
+        let at = if random.one_in(6) { SHEET_LINES - 1 - random.below(2) } else { any_line(random, count) };
+        if line::can_have(Form::of_line(at, steps), fault) {
+            return Some(at);
+        }
+        if fault == Fault::LongAttribute && count == SHEET_LINES {
+            return None;
+        }
+    }
 }
 
-fn line_count(text: &[u8]) -> usize {
-    line_ends(text).len()
-}
-
-fn split(text: &[u8]) -> Vec<&[u8]> {
-    text.split_inclusive(|byte| *byte == b'\n').collect()
-}
-
-// A line, those of the sheet as often as those of the steps.
 fn any_line(random: &mut Random, count: usize) -> usize {
     if count == SHEET_LINES || random.one_in(2) {
         random.below(SHEET_LINES)
@@ -141,95 +172,15 @@ fn any_line(random: &mut Random, count: usize) -> usize {
     }
 }
 
-// Changes one line whose value has a form that the fault can be in.
-fn fault_in_a_line(random: &mut Random, fault: Fault, text: &[u8]) -> (Vec<u8>, usize) {
-    let lines = split(text);
-    let at = loop {
-        // The last two lines of a sheet are the only ones of their forms.
-        let at = if random.one_in(6) { SHEET_LINES - 1 - random.below(2) } else { any_line(random, lines.len()) };
-        if line::can_have(Form::of_line(at), fault) {
-            break at;
-        }
-        // A sheet has no attribute; a plan of no steps is given one.
-        if fault == Fault::LongAttribute && lines.len() == SHEET_LINES {
-            let step = b"call=1\na=0000000000000000\nb=0000000000000000\nc=0000000000000000\nattr=\n";
-            return fault_in_a_line(random, fault, &[text, step].concat());
-        }
-    };
-    let changed = line::changed(random, fault, Form::of_line(at), lines[at]);
-    ([&lines[..at].concat(), &changed[..], &lines[at + 1..].concat()].concat(), at + 1)
-}
-
 fn with_carriage_returns(text: &[u8]) -> Vec<u8> {
     split(text).into_iter().flat_map(|line| [&line[..line.len() - 1], b"\r\n"].concat()).collect()
 }
 
-fn lines_moved(random: &mut Random, fault: Fault, text: &[u8]) -> (Vec<u8>, usize) {
-    let mut lines = split(text);
-    let at = any_line(random, lines.len());
-    match fault {
-        Fault::BlankLine => {
-            lines.insert(at, b"\n");
-            (lines.concat(), at + 1)
-        }
-        Fault::LineLost => {
-            lines.remove(at);
-            (lines.concat(), at + 1)
-        }
-        Fault::LineDoubled => {
-            lines.insert(at, lines[at]);
-            (lines.concat(), at + 2)
-        }
-        _ => {
-            let at = at.min(lines.len() - 2);
-            lines.swap(at, at + 1);
-            (lines.concat(), at + 1)
-        }
-    }
-}
-
-fn groups_moved(random: &mut Random, fault: Fault, text: &[u8]) -> (Vec<u8>, usize) {
-    let mut lines = split(text);
-    let groups: Vec<&[u8]> = lines.drain(GROUP_LINES).collect();
-    let first_line = GROUP_LINES.start + 1;
-    if fault == Fault::GroupsLost {
-        return (lines.concat(), first_line);
-    }
-    match random.below(4) {
-        0 => ([groups.concat(), lines.concat()].concat(), 1),
-        1 => {
-            for (place, group) in groups.into_iter().enumerate() {
-                lines.insert(2 * place + 1, group);
-            }
-            (lines.concat(), 2)
-        }
-        place => {
-            let end = SHEET_LINES - GROUP_LINES.len();
-            let at = if place == 2 { end } else { end - 2 };
-            lines.splice(at..at, groups);
-            (lines.concat(), first_line)
-        }
-    }
-}
-
-fn cut(random: &mut Random, fault: Fault, mut text: Vec<u8>) -> (Vec<u8>, usize) {
-    let ends = line_ends(&text);
-    let at = any_line(random, ends.len());
-    let start = if at == 0 { 0 } else { ends[at - 1] };
-    let is_between_parts = at >= SHEET_LINES && (at - SHEET_LINES).is_multiple_of(STEP_LINES);
-    if fault == Fault::CutBetweenLines && !is_between_parts {
-        text.truncate(start);
-    } else {
-        // Just before the newline a third of the time: the line is right but for its end.
-        let within = ends[at] - start - 1;
-        let kept = if random.one_in(3) { within } else { 1 + random.below(within) };
-        text.truncate(start + kept);
-    }
-    (text, at + 1)
-}
-
-fn appended(random: &mut Random, mut text: Vec<u8>) -> Vec<u8> {
-    let pieces: [&[u8]; 9] = [b"\n", b" ", b"\0", b"x", b"call=", b"call=1", b"attr=\n", b"nnp=0\n", b"# end\n"];
+fn appended(random: &mut Random, mut text: Vec<u8>, steps: Steps) -> Vec<u8> {
+    let pieces: [&[u8]; 9] = match steps {
+        Steps::OfPlans => [b"\n", b" ", b"\0", b"x", b"call=", b"call=1", b"attr=\n", b"nnp=0\n", b"# end\n"],
+        Steps::OfSlotPlans => [b"\n", b" ", b"\0", b"x", b"slot=", b"slot=0", b"call=1\n", b"nnp=0\n", b"ruid=0\n"],
+    };
     text.extend_from_slice(random.pick(&pieces));
     text
 }
@@ -288,7 +239,7 @@ mod tests {
             for seed in 0..300 {
                 let mut random = Random::new(seed);
                 let whole = plan_to_break(&mut random, fault, seed % 2 == 0).text();
-                let (text, line) = broken_by(&mut random, fault, whole.clone());
+                let (text, line) = broken_by(&mut random, fault, whole.clone(), Steps::OfPlans);
                 let Some(line) = line else { continue };
                 assert!(fault == Fault::TooManySteps || text != whole, "{fault:?}, seed {seed}: nothing is changed");
                 let outcome = run_plan(&text, &mut []);

@@ -1,9 +1,10 @@
-//! Plans, sheets, attributes, texts in names, status texts and broken texts, each made from one seed.
+//! Plans, slot plans, sheets, attributes, texts in names, status texts and broken texts, each made from one seed.
 //!
 //! [`generated`] gives the text of any kind: plans that run, with the calls and operands that the rules tell apart; plans whose start is
-//! invalid; texts that are no plans. [`input`] gives what the readers and writers of sheets and attributes are asked. [`named_text`] gives texts
-//! in names, [`libcap_text`] those for libcap, and [`named_sets`] sets to be written in names. [`status_input`] gives status texts, each with a sheet
-//! to be laid beside it. [`measured`] gives plans of a fixed number of steps, to take times by. The same seed gives the same.
+//! invalid; texts that are no plans. [`slot_text`] gives the same of slot plans, with families of threads of several kinds. [`input`] gives what the
+//! readers and writers of sheets and attributes are asked. [`named_text`] gives texts in names, [`libcap_text`] those for libcap, and [`named_sets`]
+//! sets to be written in names. [`status_input`] gives status texts, each with a sheet to be laid beside it. [`measured`] gives plans of a fixed number
+//! of steps, and [`measured_slots`] slot plans, to take times by. The same seed gives the same.
 
 #![deny(missing_docs)]
 
@@ -13,6 +14,7 @@ mod inputs;
 mod names;
 mod random;
 mod sets;
+mod slot_plans;
 mod starts;
 mod status;
 mod steps;
@@ -21,18 +23,19 @@ mod text;
 pub use broken::Fault;
 pub use inputs::{input, values, Input, Operands, VALUES};
 pub use names::{libcap_text, named_sets, named_text, NameFault, NamedKind, NamedText, CAPABILITY_NAMES};
+pub use slot_plans::{measured_slots, slot_text, MeasuredSlots, SlotFault, SlotKind, SlotPlan, SlotStep, SlotText};
 pub use status::{
     bare_status, compared_values, kernel_status, status_input, Found, StatusFault, StatusInput, StatusKind, FOUND,
     WANTED,
 };
-pub use text::{write_result, write_sheet, write_step};
+pub use text::{write_result, write_sheet, write_slot, write_slot_step, write_step};
 
 use random::Random;
 use second::{Credentials, Step};
 use starts::Flaw;
 use steps::Maker;
 
-/// The most steps that a plan may have.
+/// The most steps that a plan or a slot plan may have.
 pub const MOST_STEPS: usize = 256;
 
 /// Credentials to start from, and steps.

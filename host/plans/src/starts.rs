@@ -7,6 +7,8 @@ use second::Credentials;
 /// The largest ID; one more is no ID and stands for "leave" in some calls.
 pub(crate) const LARGEST_ID: u32 = 4_294_967_294;
 pub(crate) const NO_ID: u32 = 4_294_967_295;
+/// The least number of ten digits.
+const TEN_DIGITS: u32 = 1_000_000_000;
 
 /// User IDs or group IDs.
 #[derive(Clone, Copy, Debug, PartialEq, Eq)]
@@ -163,6 +165,22 @@ pub(crate) fn id(random: &mut Random, family: Family) -> u32 {
         13 => LARGEST_ID,
         14 => random.pick(&[1, 99, 65_534, 65_535, 65_536, 2_147_483_647, 2_147_483_648, 4_294_967_293]),
         _ => (random.number() as u32).min(LARGEST_ID),
+    }
+}
+
+/// IDs of ten digits each.
+pub(crate) fn ids_of_ten_digits(random: &mut Random, family: Family, credentials: &mut Credentials) {
+    for id in family.ids_mut(credentials) {
+        *id = number_of_ten_digits(random).min(LARGEST_ID);
+    }
+}
+
+/// A number of ten digits, 4294967295 and the least more often.
+pub(crate) fn number_of_ten_digits(random: &mut Random) -> u32 {
+    match random.below(4) {
+        0 => NO_ID,
+        1 => TEN_DIGITS,
+        _ => TEN_DIGITS + random.below((NO_ID - TEN_DIGITS) as usize) as u32,
     }
 }
 

@@ -10,6 +10,7 @@ pub use fault::StatusFault;
 pub use lines::{Found, FOUND, WANTED};
 
 use crate::random::Random;
+use crate::starts::{self, Family};
 use crate::{broken as broken_sheets, inputs, with_steps, Generated, Kind, Plan};
 use lines::{Line, Lines};
 use second::Credentials;
@@ -55,7 +56,7 @@ pub fn status_input(seed: u64) -> StatusInput {
     let refused = random.below(if is_well_formed { 16 } else { 8 });
     let mut start = if refused == 0 { inputs::flawed(random) } else { inputs::start(random) };
     if is_longest && refused != 0 {
-        values::ids_of_ten_digits(random, &mut start);
+        starts::ids_of_ten_digits(random, Family::Users, &mut start);
     }
     let predicted = values::compared(&start);
     let found = if is_longest { values::all_changed(random, &predicted) } else { values::found(random, &predicted) };

@@ -20,6 +20,7 @@ const FLAGS: u8 = 1 | 4 | 16 | 64;
 const LOCKS: u8 = FLAGS << 1;
 
 /// Makes steps one after the other. It guesses what the thread holds, to choose operands near to that; it does not know the rules.
+#[derive(Clone)]
 pub(crate) struct Maker {
     guess: Credentials,
 }

@@ -1,6 +1,6 @@
 //! The written form of sheets, steps and plans ("Sheet, plan and report").
 
-use crate::Plan;
+use crate::{Plan, SlotPlan, SlotStep};
 use second::{Credentials, Step};
 use std::io::Write;
 
@@ -29,6 +29,17 @@ pub fn write_step(text: &mut Vec<u8>, step: &Step) {
     text.push(b'\n');
 }
 
+/// Adds the six lines of a step that names its slot.
+pub fn write_slot_step(text: &mut Vec<u8>, SlotStep { slot, step }: &SlotStep) {
+    write_slot(text, *slot);
+    write_step(text, step);
+}
+
+/// Adds the line of a slot.
+pub fn write_slot(text: &mut Vec<u8>, slot: u8) {
+    writeln!(text, "slot={slot}").expect(WRITES);
+}
+
 /// Adds the three lines of a report that a step has.
 pub fn write_result(text: &mut Vec<u8>, code: u32, value: u64, cause: u32) {
     write!(text, "code={code}\nvalue={value:016x}\ncause={cause}\n").expect(WRITES);
@@ -41,6 +52,18 @@ impl Plan {
         write_sheet(&mut text, &self.start);
         for step in &self.steps {
             write_step(&mut text, step);
+        }
+        text
+    }
+}
+
+impl SlotPlan {
+    /// The slot plan as a text: the sheet, then each step with its slot.
+    pub fn text(&self) -> Vec<u8> {
+        let mut text = Vec::new();
+        write_sheet(&mut text, &self.start);
+        for step in &self.steps {
+            write_slot_step(&mut text, step);
         }
         text
     }
@@ -95,6 +118,14 @@ mod tests {
         let mut text = Vec::new();
         write_step(&mut text, &Step { call: 99, a: 0xabc, b: u64::MAX, c: 1, attr: vec![0x0a, 0xf0] });
         let expected = "call=99\na=0000000000000abc\nb=ffffffffffffffff\nc=0000000000000001\nattr=0af0\n";
+        assert_eq!(text, expected.as_bytes());
+    }
+    #[test]
+    fn the_slot_comes_before_the_call() {
+        let mut text = Vec::new();
+        let step = Step { call: 30, a: 0, b: 0, c: 0, attr: Vec::new() };
+        write_slot_step(&mut text, &SlotStep { slot: 95, step });
+        let expected = "slot=95\ncall=30\na=0000000000000000\nb=0000000000000000\nc=0000000000000000\nattr=\n";
         assert_eq!(text, expected.as_bytes());
     }
 }

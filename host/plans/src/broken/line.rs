@@ -2,9 +2,41 @@
 
 use super::Fault;
 use crate::random::Random;
+use crate::MOST_STEPS;
 
-pub(super) const SHEET_LINES: usize = 15;
-pub(super) const STEP_LINES: usize = 5;
+pub(crate) const SHEET_LINES: usize = 15;
+
+/// Which steps a text has: those of a plan, or those of a slot plan, with the slot's line before each.
+#[derive(Clone, Copy, Debug, PartialEq, Eq)]
+pub(crate) enum Steps {
+    OfPlans,
+    OfSlotPlans,
+}
+
+impl Steps {
+    /// How many lines a step has.
+    pub(crate) fn lines(self) -> usize {
+        match self {
+            Steps::OfPlans => 5,
+            Steps::OfSlotPlans => 6,
+        }
+    }
+
+    /// The line of refusal 70 for a 257th step.
+    pub(super) fn line_of_step_257(self) -> usize {
+        SHEET_LINES + self.lines() * MOST_STEPS + 1
+    }
+
+    /// A step without operands or attribute.
+    pub(super) fn launch(self) -> &'static [u8] {
+        match self {
+            Steps::OfPlans => b"call=1\na=0000000000000000\nb=0000000000000000\nc=0000000000000000\nattr=\n",
+            Steps::OfSlotPlans => {
+                b"slot=0\ncall=1\na=0000000000000000\nb=0000000000000000\nc=0000000000000000\nattr=\n"
+            }
+        }
+    }
+}
 
 /// The form of a line's value.
 #[derive(Clone, Copy, PartialEq, Eq)]
@@ -17,24 +49,25 @@ pub(super) enum Form {
     Securebits,
     /// 0 or 1.
     Flag,
-    /// Decimal, up to 99.
+    /// Decimal, up to 99: a call or a slot.
     Call,
     /// 0 to 48 hex digits, an even number.
     Attribute,
 }
 
 impl Form {
-    /// The form in the line at that place of a plan, counted from 0.
-    pub(super) fn of_line(at: usize) -> Form {
+    /// The form in the line at that place of a plan or a slot plan, counted from 0.
+    pub(super) fn of_line(at: usize, steps: Steps) -> Form {
         match at {
             0..=7 => Form::Id,
             8..=12 => Form::Mask,
             13 => Form::Securebits,
             14 => Form::Flag,
-            _ => match (at - SHEET_LINES) % STEP_LINES {
-                0 => Form::Call,
-                4 => Form::Attribute,
-                _ => Form::Mask,
+            // From the last line of the step.
+            _ => match steps.lines() - 1 - (at - SHEET_LINES) % steps.lines() {
+                0 => Form::Attribute,
+                1..=3 => Form::Mask,
+                _ => Form::Call,
             },
         }
     }

@@ -8,8 +8,6 @@ use crate::{inputs, sets};
 use second::Credentials;
 
 const NNP: usize = 9;
-/// The least ID of ten digits.
-const TEN_DIGITS: u64 = 1_000_000_000;
 
 /// The ten values of credentials that a status text has too.
 pub(super) fn compared(credentials: &Credentials) -> Found {
@@ -48,30 +46,19 @@ pub(super) fn found(random: &mut Random, predicted: &Found) -> Found {
     found
 }
 
-/// Other values in all ten keys, the IDs with ten digits: with those of `ids_of_ten_digits` predicted, the longest list.
+/// Other values in all ten keys, the IDs with ten digits: with those of `starts::ids_of_ten_digits` predicted, the longest list.
 pub(super) fn all_changed(random: &mut Random, predicted: &Found) -> Found {
     let mut found = *predicted;
     for (key, value) in found.iter_mut().enumerate() {
-        *value = if key < 4 { id_of_ten_digits(random, Some(*value)) } else { changed(random, key, *value) };
+        *value = if key < 4 { id_of_ten_digits(random, *value) } else { changed(random, key, *value) };
     }
     found
 }
 
-/// User IDs of ten digits each.
-pub(super) fn ids_of_ten_digits(random: &mut Random, credentials: &mut Credentials) {
-    for id in Family::Users.ids_mut(credentials) {
-        *id = id_of_ten_digits(random, None).min(u64::from(NO_ID) - 1) as u32;
-    }
-}
-
-fn id_of_ten_digits(random: &mut Random, other_than: Option<u64>) -> u64 {
+fn id_of_ten_digits(random: &mut Random, other_than: u64) -> u64 {
     loop {
-        let id = match random.below(4) {
-            0 => u64::from(NO_ID),
-            1 => TEN_DIGITS,
-            _ => TEN_DIGITS + random.below((u64::from(NO_ID) - TEN_DIGITS) as usize) as u64,
-        };
-        if other_than != Some(id) {
+        let id = u64::from(starts::number_of_ten_digits(random));
+        if id != other_than {
             return id;
         }
     }
