@@ -5,8 +5,8 @@ pub const USAGE: &str = "\
 compare [--count N] [--seed S] [--threads T] [--table]    compares the proved library and the second program on N plans,
                                                           on N inputs for the readers and writers of sheets and attributes,
                                                           on 10 N texts in names, on 2 N times three sets to be written so,
-                                                          and on 5 N status texts beside sheets;
-        [--first plans|inputs|names|status]               begins with those, which matters where a difference is expected
+                                                          on 5 N status texts beside sheets, and on N slot plans;
+        [--first plans|inputs|names|status|slots]         begins with those, which matters where a difference is expected
 compare [--count N] [--seed S] --stream FILE              writes the texts of N plans to FILE";
 
 /// What is compared, one after the other.
@@ -16,18 +16,24 @@ pub enum Part {
     Inputs,
     Names,
     Status,
+    Slots,
 }
 
 impl Part {
     /// All of them, by their names on the command line.
-    pub const ALL: [(&str, Part); 4] =
-        [("plans", Part::Plans), ("inputs", Part::Inputs), ("names", Part::Names), ("status", Part::Status)];
+    pub const ALL: [(&str, Part); 5] = [
+        ("plans", Part::Plans),
+        ("inputs", Part::Inputs),
+        ("names", Part::Names),
+        ("status", Part::Status),
+        ("slots", Part::Slots),
+    ];
 }
 
 /// What the command line asks for.
 #[derive(Debug, PartialEq, Eq)]
 pub struct Arguments {
-    /// How many plans, how many inputs, and the names and status texts of how many seeds.
+    /// How many plans, how many inputs, the names and status texts of how many seeds, and how many slot plans.
     pub count: u64,
     /// The seed of the first of each; each next has the next.
     pub seed: u64,
@@ -65,9 +71,9 @@ fn number(word: &str, value: Option<String>) -> Result<u64, String> {
 }
 
 fn part(value: Option<String>) -> Result<Part, String> {
-    let value = value.ok_or("--first needs plans, inputs, names or status")?;
+    let value = value.ok_or("--first needs plans, inputs, names, status or slots")?;
     let found = Part::ALL.into_iter().find(|(name, _)| *name == value);
-    found.map(|(_, part)| part).ok_or(format!("--first needs plans, inputs, names or status, and not {value}"))
+    found.map(|(_, part)| part).ok_or(format!("--first needs plans, inputs, names, status or slots, and not {value}"))
 }
 
 #[cfg(test)]
@@ -92,7 +98,7 @@ mod tests {
         assert_eq!(read_words("--quick").unwrap_err(), "--quick is not understood");
         assert_eq!(
             read_words("--first last").unwrap_err(),
-            "--first needs plans, inputs, names or status, and not last"
+            "--first needs plans, inputs, names, status or slots, and not last"
         );
         assert_eq!(read_words("--stream").unwrap_err(), "--stream needs a file's name");
     }

@@ -4,7 +4,7 @@
 //! the answer. What comes back is then held against the row. A run of enough plans that never meets a row fails: its plans are too tame.
 //!
 //! The rows of the calls stand in files by the paper's sections; those of texts, and of the readers and writers of sheets, attributes and names,
-//! and of status texts, in files of their own. They were written from the paper, as a third reading of it.
+//! of status texts and of slot plans, in files of their own. They were written from the paper, as a third reading of it.
 
 mod ambient;
 mod attribute;
@@ -26,6 +26,7 @@ mod read_sheet;
 mod securebits;
 mod seen;
 mod sheet;
+mod slots;
 mod status;
 mod texts;
 mod validity;
@@ -41,6 +42,7 @@ pub use read_names::{Again, NamesRead};
 pub use read_sheet::SheetRead;
 pub use seen::{Answer, Seen};
 pub use sheet::LONGEST as LONGEST_SHEET;
+pub use slots::{Past, SlotMoment, SlotSight, LONGEST as LONGEST_SLOT_REPORT};
 pub use status::LONGEST as LONGEST_LIST;
 pub use texts::Sight;
 pub use write_attribute::AttributeWrite;
@@ -85,6 +87,7 @@ pub struct Table {
     names_written: Group<NamesWrite>,
     status_malformed: Group<Laid>,
     status_read: Group<Laid>,
+    slots: slots::Rows,
 }
 
 // Rows that look at the same, and where the first has its count.
@@ -130,6 +133,7 @@ impl Table {
         let names_written = names_read.followed_by(write_names::rows());
         let status_malformed = names_written.followed_by(compare_status::rows_of_malformed_texts());
         let status_read = status_malformed.followed_by(compare_status::rows_of_well_formed_texts());
+        let slots = slots::Rows::after(&status_read);
         Table {
             calls,
             of_call,
@@ -143,12 +147,13 @@ impl Table {
             names_written,
             status_malformed,
             status_read,
+            slots,
         }
     }
 
     /// Counts of nothing yet.
     pub fn counts(&self) -> Counts {
-        Counts(vec![0; self.status_read.end()])
+        Counts(vec![0; self.slots.end()])
     }
 
     /// Counts the rows that apply to a call. Gives the name of a row whose demand is not met.
@@ -203,6 +208,16 @@ impl Table {
         group.meet(laid, counts)
     }
 
+    /// The same for a step of a slot plan.
+    pub fn meet_slot_step(&self, moment: &SlotMoment, counts: &mut Counts) -> Result<(), &str> {
+        self.slots.meet_step(moment, counts)
+    }
+
+    /// The same for the text of a slot plan.
+    pub fn meet_slot_text(&self, sight: &SlotSight, counts: &mut Counts) -> Result<(), &str> {
+        self.slots.meet_text(sight, counts)
+    }
+
     /// Each row's name with its count.
     pub fn counted(&self, counts: &Counts) -> Vec<(&str, u64)> {
         let names = self.calls.names().chain(self.texts.names());
@@ -211,6 +226,7 @@ impl Table {
         let names = names.chain(self.names_malformed.names()).chain(self.names_read.names());
         let names = names.chain(self.names_written.names());
         let names = names.chain(self.status_malformed.names()).chain(self.status_read.names());
+        let names = names.chain(self.slots.names());
         names.zip(counts.0.iter().copied()).collect()
     }
 }

@@ -1,14 +1,16 @@
-//! Plans, inputs, names and status texts through both programs.
+//! Plans, inputs, names, status texts and slot plans through both programs.
 
 mod functions;
 mod input;
 mod names;
 mod plan;
+mod slots;
 mod status;
 
 pub use input::{InputChecker, FUNCTIONS};
 pub use names::{NamesChecker, NAME_FUNCTIONS};
 pub use plan::PlanChecker;
+pub use slots::SlotChecker;
 pub use status::StatusChecker;
 
 use crate::branches::Counts;

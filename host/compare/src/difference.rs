@@ -9,7 +9,7 @@ const END: usize = 600;
 /// How many elements of a buffer are printed before and after the first that differs.
 const AROUND: usize = 60;
 
-/// A plan, an input, names or a status text on which the programs differ, or which do not come to what is known of them.
+/// A plan, an input, names, a status text or a slot plan on which the programs differ, or which do not come to what is known of them.
 pub struct Difference {
     /// Its seed.
     pub seed: u64,

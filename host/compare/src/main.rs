@@ -1,9 +1,9 @@
 //! Runs generated plans through the proved library and the second program, and demands that they agree on code, line, length and every byte
-//! of the buffer; and inputs for the readers and writers of sheets and attributes, and of names, and status texts beside sheets, likewise.
+//! of the buffer; and inputs for the readers and writers of sheets and attributes, and of names, status texts beside sheets, and slot plans, likewise.
 //!
 //! The first plan on which they differ is printed, or else the first input, or else the first text in names or sets to be written in names, or
-//! else the first status text, and the program ends with 1. So it does if a run of at least 20,000 did not reach every branch of the rules. Wrong
-//! arguments end it with 2.
+//! else the first status text, or else the first slot plan, and the program ends with 1. So it does if a run of at least 20,000 did not reach every
+//! branch of the rules. Wrong arguments end it with 2.
 
 mod arguments;
 mod branches;
@@ -14,13 +14,15 @@ mod stream;
 
 use arguments::{Arguments, Part};
 use branches::{Counts, Table};
-use check::{Check, InputChecker, NamesChecker, PlanChecker, StatusChecker, Tally, FUNCTIONS, NAME_FUNCTIONS};
+use check::{
+    Check, InputChecker, NamesChecker, PlanChecker, SlotChecker, StatusChecker, Tally, FUNCTIONS, NAME_FUNCTIONS,
+};
 use difference::Difference;
 use std::process::ExitCode;
 use std::sync::atomic::{AtomicU64, Ordering};
 use std::thread;
 
-/// With so many plans and inputs, and the names and status texts of so many seeds, every branch has to be reached.
+/// With so many plans, inputs and slot plans, and the names and status texts of so many seeds, every branch has to be reached.
 const ENOUGH: u64 = 20_000;
 
 fn main() -> ExitCode {
@@ -90,6 +92,10 @@ fn compare_part(part: Part, arguments: &Arguments, table: &Table, counts: &mut C
         Part::Status => {
             let status = checked(arguments, counts, "status", || StatusChecker::new(table))?;
             report_agreement("status texts", "compare_status", status.iter().map(|checker| checker.tally));
+        }
+        Part::Slots => {
+            let slots = checked(arguments, counts, "slots", || SlotChecker::new(table))?;
+            report_agreement("slot plans", "run_slot_plan", slots.iter().map(|checker| checker.tally));
         }
     }
     Some(())

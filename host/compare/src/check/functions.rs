@@ -1,14 +1,14 @@
-//! The readers and writers of sheets, attributes and names, and the comparison of a status text, each in both programs.
+//! The readers and writers of sheets, attributes and names, the comparison of a status text, and the run of a slot plan, each in both programs.
 
 use super::scattered;
-use crate::branches::{Answer, Seen, LONGEST_LIST, LONGEST_NAMES, LONGEST_SHEET};
+use crate::branches::{Answer, Seen, LONGEST_LIST, LONGEST_NAMES, LONGEST_SHEET, LONGEST_SLOT_REPORT};
 use crate::buffers::{Buffers, Element};
 use crate::difference::both;
 use plans::{Operands, VALUES};
-use second::Written;
+use second::{Outcome, Written};
 use urrezkalu::interface;
 
-/// One of the seven with what it is given.
+/// One of the eight with what it is given.
 pub trait Function {
     /// What it writes.
     type Element: Element;
@@ -133,6 +133,26 @@ impl Function for CompareStatus<'_> {
 
     fn second(&self, list: &mut [u8]) -> Written {
         second::compare_status(self.status, self.sheet, list)
+    }
+}
+
+pub struct RunSlotPlan<'t>(pub &'t [u8]);
+
+impl Function for RunSlotPlan<'_> {
+    type Element = u8;
+    const MOST: usize = LONGEST_SLOT_REPORT;
+
+    fn proved(&self, report: &mut [u8]) -> u64 {
+        interface::run_slot_plan(self.0, report)
+    }
+
+    fn second(&self, report: &mut [u8]) -> Written {
+        match second::run_slot_plan(self.0, report) {
+            Outcome::Report { length } => Written { code: 0, number: length as u32 },
+            Outcome::Malformed { line } => Written { code: 70, number: line },
+            Outcome::Invalid => Written { code: 72, number: 0 },
+            Outcome::NoRoom => Written { code: 28, number: 0 },
+        }
     }
 }
 
