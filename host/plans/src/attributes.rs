@@ -47,6 +47,11 @@ pub(crate) fn good(random: &mut Random, guess: &Credentials) -> Vec<u8> {
     }
 }
 
+/// An attribute that demands those capabilities: they are permitted, and the effective bit is on.
+pub(crate) fn demanding(permitted: u64) -> Vec<u8> {
+    version_2(&File { permitted, inheritable: 0, effective: true })
+}
+
 /// Sets about the thread's inheritable and bounding sets, so that a launch is refused for a missing capability about as often as not.
 pub(crate) fn file(random: &mut Random, guess: &Credentials) -> File {
     let effective = random.one_in(2);

@@ -61,6 +61,12 @@ impl Maker {
         step
     }
 
+    /// A launch that one of two threads is refused and the other is not: its file demands what one bounding set has and the other lacks, if they differ.
+    pub(crate) fn launch_apart(&self, random: &mut Random, other: &Maker) -> Step {
+        let demanded = sets::member(random, self.guess.bounding ^ other.guess.bounding);
+        Step { call: 1, a: 0, b: 0, c: 0, attr: attributes::demanding(1 << demanded) }
+    }
+
     fn launch(&self, random: &mut Random, step: &mut Step) {
         step.a = u64::from(self.file_id(random, Family::Users));
         step.c = u64::from(self.file_id(random, Family::Groups));

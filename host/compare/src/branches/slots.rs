@@ -12,7 +12,7 @@ mod unused_operands;
 
 pub use moment::SlotMoment;
 pub use past::Past;
-pub use texts::SlotSight;
+pub use texts::{End, SlotSight};
 
 use super::{Counts, Group};
 use moment::Asked;
@@ -71,5 +71,132 @@ impl Rows {
     pub(super) fn names(&self) -> impl Iterator<Item = &str> {
         let steps = [&self.refused, &self.forks, &self.exits, &self.calls];
         steps.into_iter().flat_map(Group::names).chain(self.texts.names())
+    }
+}
+
+#[cfg(test)]
+mod tests {
+    use super::super::Table;
+    use super::*;
+    use second::{Credentials, SlotAnswer, Step, Threads};
+
+    fn start() -> Credentials {
+        Credentials {
+            ruid: 1000,
+            euid: 1001,
+            suid: 1002,
+            fsuid: 1003,
+            rgid: 100,
+            egid: 101,
+            sgid: 102,
+            fsgid: 103,
+            permitted: 7,
+            inheritable: 6,
+            effective: 3,
+            bounding: 15,
+            ambient: 2,
+            securebits: 5,
+            nnp: false,
+        }
+    }
+
+    fn bare(call: u8) -> Step {
+        Step { call, a: 0, b: 0, c: 0, attr: Vec::new() }
+    }
+
+    // The table after those steps, each without operands but for call 13, which sets no-new-privs.
+    fn after(steps: &[(u8, u8)]) -> Threads {
+        let mut threads = Threads::new(start());
+        for (slot, call) in steps {
+            let step = Step { a: u64::from(*call == 13), ..bare(*call) };
+            assert_eq!(threads.step(*slot, &step).code, 0);
+        }
+        threads
+    }
+
+    // Whether the table of branches takes that answer and that table after it, where the step before was a fork.
+    fn is_met(
+        before: &Threads,
+        (slot, step): (u8, Step),
+        (code, value, cause): (u32, u64, u32),
+        after: &Threads,
+    ) -> bool {
+        let table = Table::new();
+        let last = Some((0, SlotAnswer { code: 0, value: 1, cause: 0 }));
+        let tables = (before.clone(), after.clone());
+        let answer = SlotAnswer { code, value, cause };
+        let moment = SlotMoment::new(&start(), (&Past::new(), last), (slot, step), tables, answer);
+        table.meet_slot_step(&moment, &mut table.counts()).is_ok()
+    }
+
+    const FORKED: [(u8, u8); 3] = [(0, FORK), (0, FORK), (0, FORK)];
+
+    #[test]
+    fn another_slot_than_the_lowest_is_told() {
+        let before = after(&[&FORKED[..], &[(1, EXIT), (3, 13)]].concat());
+        let into_1 = after(&[&FORKED[..], &[(1, EXIT), (3, 13), (3, FORK)]].concat());
+        assert!(is_met(&before, (3, bare(FORK)), (0, 1, 0), &into_1));
+        for (code, value, cause) in [(0, 4, 0), (0, 0, 0), (0, 1, 1), (11, 0, 0)] {
+            assert!(!is_met(&before, (3, bare(FORK)), (code, value, cause), &into_1));
+        }
+        // Into slot 4, by another caller, not at all, and with a call beside it.
+        let into_4 = after(&[&FORKED[..], &[(3, 13), (3, FORK), (1, EXIT)]].concat());
+        assert!(!is_met(&before, (3, bare(FORK)), (0, 4, 0), &into_4));
+        let of_slot_0 = after(&[&FORKED[..], &[(1, EXIT), (3, 13), (0, FORK)]].concat());
+        assert!(!is_met(&before, (3, bare(FORK)), (0, 1, 0), &of_slot_0));
+        assert!(!is_met(&before, (3, bare(FORK)), (0, 1, 0), &before));
+        let beside = after(&[&FORKED[..], &[(1, EXIT), (3, 13), (3, FORK), (0, 13)]].concat());
+        assert!(!is_met(&before, (3, bare(FORK)), (0, 1, 0), &beside));
+    }
+
+    #[test]
+    fn another_slot_that_is_freed_is_told() {
+        let before = after(&FORKED);
+        let with_exit = |slot: u8| after(&[&FORKED[..], &[(slot, EXIT)]].concat());
+        assert!(is_met(&before, (1, bare(EXIT)), (0, 0, 0), &with_exit(1)));
+        assert!(!is_met(&before, (1, bare(EXIT)), (0, 1, 0), &with_exit(1)));
+        for slot in [0, 2, 3] {
+            assert!(!is_met(&before, (1, bare(EXIT)), (0, 0, 0), &with_exit(slot)));
+        }
+    }
+
+    #[test]
+    fn refusals_in_another_order_are_told() {
+        let one = after(&[]);
+        let spoiled = |call: u8| Step { b: 1, ..bare(call) };
+        for (slot, step, code) in [
+            (96, bare(FORK), 22),
+            (99, bare(14), 22),
+            (1, bare(FORK), 3),
+            (1, spoiled(EXIT), 3),
+            (95, bare(99), 3),
+            (0, spoiled(FORK), 22),
+            (0, spoiled(EXIT), 22),
+            (0, bare(32), 22),
+        ] {
+            for other in [0, 1, 3, 11, 22, 60, 72] {
+                let is_met = is_met(&one, (slot, step.clone()), (other, 0, 0), &one);
+                assert_eq!(is_met, other == code, "slot {slot}, call {}, {other}", step.call);
+            }
+        }
+        let full = after(&[(0, FORK); 95]);
+        assert!(
+            is_met(&full, (95, bare(FORK)), (11, 0, 0), &full) && !is_met(&full, (95, bare(FORK)), (22, 0, 0), &full)
+        );
+        assert!(is_met(&full, (95, spoiled(FORK)), (22, 0, 0), &full));
+        assert!(!is_met(&full, (95, spoiled(FORK)), (11, 0, 0), &full));
+    }
+
+    #[test]
+    fn a_call_in_another_slot_is_told() {
+        let before = after(&FORKED);
+        let step = || Step { a: 1, ..bare(13) };
+        let with_call = |slot: u8| after(&[&FORKED[..], &[(slot, 13)]].concat());
+        assert!(is_met(&before, (2, step()), (0, 0, 0), &with_call(2)));
+        for slot in [0, 1, 3] {
+            assert!(!is_met(&before, (2, step()), (0, 0, 0), &with_call(slot)));
+        }
+        assert!(!is_met(&before, (2, step()), (0, 0, 0), &before));
+        assert!(!is_met(&before, (2, step()), (0, 0, 1), &with_call(2)));
     }
 }

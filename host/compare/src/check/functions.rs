@@ -171,7 +171,7 @@ pub fn see<F: Function>(function: &F, buffers: &mut Buffers<F::Element>, seed: u
     let enough = if written.is_empty() { F::MOST } else { written.len() };
     let one_short = agree(function, buffers, enough - 1)?;
     let exact = agree(function, buffers, enough)?;
-    let room = scattered(seed) as usize % (2 * enough);
+    let room = scattered(seed) as usize % (2 * enough).min(buffers.length() + 1);
     let some = (room, agree(function, buffers, room)?);
     Ok(Seen { no_room, one_short, exact, some, roomy, written })
 }

@@ -2,7 +2,7 @@
 
 use super::functions::{see, Fault, RunSlotPlan};
 use super::{against_the_table, scattered, Check, Tally};
-use crate::branches::{Counts, Moment, Past, SlotMoment, SlotSight, Table, LONGEST_SLOT_REPORT};
+use crate::branches::{Counts, End, Moment, Past, SlotMoment, SlotSight, Table, LONGEST_SLOT_REPORT};
 use crate::buffers::Buffers;
 use crate::difference::{self, both, Checked, Difference};
 use plans::{write_result, write_sheet, write_slot, write_slot_step, SlotKind, SlotPlan, SlotStep};
@@ -10,6 +10,9 @@ use second::{Answer, SlotAnswer, Threads};
 use urrezkalu::interface;
 
 const SLOTS: u8 = 96;
+
+/// Room for any report and some bytes more.
+const ROOMY: usize = LONGEST_SLOT_REPORT + 64;
 
 /// Checks slot plans one after the other.
 pub struct SlotChecker<'a> {
@@ -51,7 +54,7 @@ impl<'a> SlotChecker<'a> {
             counts: table.counts(),
             of_calls: table.counts(),
             tally: Tally::default(),
-            bytes: Buffers::of_bytes(2 * LONGEST_SLOT_REPORT),
+            bytes: Buffers::of_bytes(ROOMY),
         }
     }
 
@@ -67,9 +70,8 @@ impl<'a> SlotChecker<'a> {
         met.map_err(|row| Fault { what: against_the_table(row), more: sight.seen.told() })
     }
 
-    // Takes the steps one by one, each from the slots that the last left. Gives the slots after the last and the report that all come to. The report
-    // of the first steps has to be theirs.
-    fn step_through(&mut self, seed: u64, plan: &SlotPlan) -> Result<(Threads, Vec<u8>), Fault> {
+    // Takes the steps one by one, each from the slots that the last left, and gives what they come to. The report of the first steps has to be theirs.
+    fn step_through(&mut self, seed: u64, plan: &SlotPlan) -> Result<End, Fault> {
         let stop_after = scattered(seed) as usize % (plan.steps.len() + 1);
         let mut threads = Threads::new(plan.start.clone());
         let mut past = Past::new();
@@ -85,11 +87,12 @@ impl<'a> SlotChecker<'a> {
             last = Some((index, answer));
             threads = moment.after;
             if index + 1 == stop_after {
-                self.expect_report(&plan.start, &plan.steps[..stop_after], &reported(&results, &threads))?;
+                let expected = [results.as_slice(), &slots_in_use(&threads)].concat();
+                self.expect_report(&plan.start, &plan.steps[..stop_after], &expected)?;
             }
         }
-        let report = reported(&results, &threads);
-        Ok((threads, report))
+        let slots = slots_in_use(&threads);
+        Ok(End { threads, results, slots })
     }
 
     // Holds a step against what is true of every step, against the rows of steps, and a call against those of calls too.
@@ -128,21 +131,21 @@ impl<'a> SlotChecker<'a> {
     }
 }
 
-// The report of those results and of the slots in use.
-fn reported(results: &[u8], threads: &Threads) -> Vec<u8> {
-    let mut report = results.to_vec();
+// The end of a report: each slot in use and its sheet.
+fn slots_in_use(threads: &Threads) -> Vec<u8> {
+    let mut text = Vec::new();
     for (slot, held) in (0..SLOTS).filter_map(|slot| Some((slot, threads.held(slot)?))) {
-        write_slot(&mut report, slot);
-        write_sheet(&mut report, held);
+        write_slot(&mut text, slot);
+        write_sheet(&mut text, held);
     }
-    report
+    text
 }
 
 // What is true of every step, where it is not.
 fn fault_of_any_step(moment: &SlotMoment) -> Option<&'static str> {
     let SlotAnswer { code, value, cause } = moment.answer;
     let causes = if code == 1 { 1..=11 } else { 0..=0 };
-    if code != 0 && (value != 0 || moment.before != moment.after) {
+    if code != 0 && (value != 0 || !moment.is_unchanged()) {
         return Some("a refused step has value 0 and changes no slot");
     }
     if !causes.contains(&cause) {

@@ -11,9 +11,14 @@ const OTHER_KEYS: [&[u8]; 8] = [b"thread=", b"pid=", b"tid=", b"call=", b"slots=
 
 /// A text with some fault.
 pub(super) fn broken(random: &mut Random) -> SlotText {
-    let fault = match random.below(12) {
-        0..=6 => SlotFault::OfPlans(any_fault(random)),
-        7..=10 => SlotFault::InSlotLine(random.pick(&SlotFault::IN_SLOT_LINES)),
+    // More often than the rest: the cuts, for every line is to be cut in and before, text after the last step, long texts, and slots that are too large.
+    let fault = match random.below(16) {
+        0..=7 => SlotFault::OfPlans(any_fault(random)),
+        8 | 9 => {
+            SlotFault::OfPlans(random.pick(&[Fault::CutInLine, Fault::CutBetweenLines, Fault::Appended, Fault::Noise]))
+        }
+        10..=13 => SlotFault::InSlotLine(random.pick(&SlotFault::IN_SLOT_LINES)),
+        14 => SlotFault::InSlotLine(Fault::TooLarge),
         _ => random.pick(&[SlotFault::NoSlots, SlotFault::SlotLast]),
     };
     let valid = !random.one_in(6);
@@ -31,7 +36,7 @@ fn plan_to_break(random: &mut Random, fault: SlotFault, valid: bool) -> SlotPlan
         _ => 1 + random.below(5),
     };
     let goes_past_the_last = matches!(fault, SlotFault::OfPlans(Fault::Appended | Fault::TooManySteps));
-    if goes_past_the_last && count >= MOST_STEPS && random.one_in(3) {
+    if goes_past_the_last && count >= MOST_STEPS && valid && random.one_in(2) {
         let start = Shape::LongestText.start(random);
         return Shape::LongestText.plan(random, start, count);
     }

@@ -85,9 +85,15 @@ impl Family {
         self.taken(slot, bare(EXIT))
     }
 
-    /// A call by that slot, now and then with something wrong; a number that is no call may fork or exit.
+    /// A call by that slot, now and then with something wrong, or one that another slot would choose; a number that is no call may fork or exit.
     pub(super) fn call(&mut self, random: &mut Random, slot: u8) -> SlotStep {
-        let step = self.maker(slot).any(random);
+        let other = if random.one_in(2) { 0 } else { self.member(random) };
+        let mut other = self.maker(other).clone();
+        let step = match random.below(24) {
+            0 => self.maker(slot).launch_apart(random, &other),
+            1..=5 => other.any(random),
+            _ => self.maker(slot).any(random),
+        };
         self.taken(slot, step)
     }
 

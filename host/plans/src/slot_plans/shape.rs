@@ -57,6 +57,7 @@ impl Shape {
 
     pub(super) fn step_count(self, random: &mut Random) -> usize {
         match self {
+            Shape::Full if random.one_in(2) => MOST_STEPS,
             Shape::Full => SLOTS + random.below(MOST_STEPS - SLOTS),
             Shape::LongestText | Shape::LongestReport => MOST_STEPS,
             _ => step_count(random),

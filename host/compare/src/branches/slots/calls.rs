@@ -1,7 +1,6 @@
 //! Calls in a slot: they come to what they come to by that slot's credentials alone, and change no other slot. Numbers that are no calls are refused.
 
 use super::moment::{refused, row, SlotMoment, PLACES};
-use super::SLOTS;
 use crate::branches::operands::CALLS;
 use crate::branches::Row;
 use second::{Answer, SlotAnswer};
@@ -131,11 +130,9 @@ fn rows_of_slots() -> Vec<Row<SlotMoment>> {
 
 // A call changes what one thread holds; its kin hold what they did, which was the same.
 fn rows_of_kin() -> Vec<Row<SlotMoment>> {
-    let is_shared =
-        |m: &SlotMoment| (0..SLOTS).any(|slot| slot != m.slot && m.uses(slot) && m.before.held(slot) == m.held());
     let kin = |name: &str, is_kin: fn(&SlotMoment) -> bool| {
         called(format!("{name}, another slot holding the same before"), move |m, alone| {
-            is_kin(m) && is_shared(m) && changes(m, alone)
+            is_kin(m) && changes(m, alone) && m.is_shared()
         })
     };
     vec![

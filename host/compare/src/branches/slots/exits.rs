@@ -46,9 +46,7 @@ fn rows_of_members() -> Vec<Row<SlotMoment>> {
         exited("just after a fork into it", |m| {
             m.last.is_some_and(|last| last.code == 0 && last.value == u64::from(m.slot)) && m.slot > 0
         }),
-        exited("where another slot holds what it holds", |m| {
-            (0..SLOTS).any(|slot| slot != m.slot && m.uses(slot) && m.before.held(slot) == m.held())
-        }),
+        exited("where another slot holds what it holds", SlotMoment::is_shared),
     ];
     for (name, is_so) in KINDS_OF_THREADS {
         rows.push(exited(format!("of {name}"), move |m| m.held().is_some_and(is_so)));

@@ -127,9 +127,7 @@ fn rows_of_callers() -> Vec<Row<SlotMoment>> {
         forked("by slot 0, taken again", |m, _| m.slot == 0 && m.past.taken > 1),
         forked("by a parent whose child is in use", |m, _| m.past.has_child),
         forked("by a child whose parent has exited", |m, _| m.past.generation > 0 && !m.past.has_parent),
-        forked("where another slot holds what the caller does", |m, _| {
-            (0..SLOTS).any(|slot| slot != m.slot && m.uses(slot) && m.before.held(slot) == m.held())
-        }),
+        forked("where another slot holds what the caller does", |m, _| m.is_shared()),
     ];
     for (name, is_so) in KINDS_OF_THREADS {
         rows.push(forked(format!("by {name}"), move |m, _| m.held().is_some_and(is_so)));

@@ -43,6 +43,8 @@ pub struct SlotMoment {
     pub last: Option<SlotAnswer>,
     /// The slots in use before.
     pub in_use: Slots,
+    // The slots that hold something else after it, or are in use or free since.
+    changed: Slots,
     /// The sheet's credentials.
     pub start: Credentials,
     /// The past of the named slot.
@@ -66,7 +68,8 @@ impl SlotMoment {
         (before, after): (Threads, Threads),
         answer: SlotAnswer,
     ) -> SlotMoment {
-        let in_use = (0..SLOTS).filter(|slot| before.held(*slot).is_some()).fold(0, |slots, slot| slots | 1 << slot);
+        let in_use = some_of_all(|slot| before.held(slot).is_some());
+        let changed = some_of_all(|slot| before.held(slot) != after.held(slot));
         let mut moment = SlotMoment {
             index: last.map_or(0, |(index, _)| index + 1),
             last: last.map(|(_, answer)| answer),
@@ -82,6 +85,7 @@ impl SlotMoment {
             before,
             after,
             in_use,
+            changed,
         };
         moment.left_in_free = moment.lowest_free().and_then(|free| past.of(free).left);
         if moment.asked() == Asked::Call {
@@ -158,7 +162,12 @@ impl SlotMoment {
 
     /// Whether it was refused with that code, which has no cause, and no slot changed.
     pub fn is_refused(&self, code: u32) -> bool {
-        self.answer == SlotAnswer { code, value: 0, cause: 0 } && self.before == self.after
+        self.answer == SlotAnswer { code, value: 0, cause: 0 } && self.is_unchanged()
+    }
+
+    /// Whether every slot is as before.
+    pub fn is_unchanged(&self) -> bool {
+        self.changed == 0
     }
 
     /// Whether it was done with that value.
@@ -168,8 +177,19 @@ impl SlotMoment {
 
     /// Whether every slot but that one is as before.
     pub fn changes_only(&self, slot: u8) -> bool {
-        (0..SLOTS).filter(|other| *other != slot).all(|other| self.before.held(other) == self.after.held(other))
+        self.changed & !(1 << slot) == 0
     }
+
+    /// Whether another slot in use holds before what the named one does.
+    pub fn is_shared(&self) -> bool {
+        let others = self.in_use & !(1 << self.slot);
+        (0..SLOTS).any(|slot| others >> slot & 1 == 1 && self.before.held(slot) == self.held())
+    }
+}
+
+// Those of the 96 slots of which that is true.
+fn some_of_all(is_so: impl Fn(u8) -> bool) -> Slots {
+    (0..SLOTS).filter(|slot| is_so(*slot)).fold(0, |slots, slot| slots | 1 << slot)
 }
 
 /// The lowest of some slots.

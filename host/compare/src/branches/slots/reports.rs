@@ -32,8 +32,8 @@ fn rows_of_sizes() -> Vec<Row<SlotSight>> {
         rows.push(reported(name, move |s| s.start().is_some_and(|start| start[place] == LARGEST_ID)));
     }
     rows.push(reported("the longest slot plan", |s| s.text().len() == LONGEST_PLAN));
-    rows.push(reported("the longest report", |s| s.report().len() == LONGEST));
-    rows.push(reported("a report of 32,768 bytes or more", |s| s.report().len() >= 32_768));
+    rows.push(reported("the longest report", |s| s.length() == LONGEST));
+    rows.push(reported("a report of 32,768 bytes or more", |s| s.length() >= 32_768));
     rows
 }
 
@@ -45,7 +45,7 @@ fn rows_of_ends() -> Vec<Row<SlotSight>> {
     rows.extend([
         reported("no slot in use at the end of one step", |s| s.size() == 0 && s.steps() == Some(1)),
         reported("no slot in use at the end, nor in the steps before", |s| {
-            s.size() == 0 && s.report().ends_with(b"code=3\nvalue=0000000000000000\ncause=0\n")
+            s.size() == 0 && s.results().ends_with(b"code=3\nvalue=0000000000000000\ncause=0\n")
         }),
         reported("slot 0 alone in use at the end", |s| s.size() == 1 && s.ends_with(0)),
         reported("another slot alone in use at the end", |s| s.size() == 1 && !s.ends_with(0)),
@@ -62,7 +62,7 @@ fn rows_of_ends() -> Vec<Row<SlotSight>> {
 
 fn rows_of_rooms() -> Vec<Row<SlotSight>> {
     let runs = |s: &SlotSight| s.plan().is_some();
-    let results = |s: &SlotSight| s.results_length();
+    let results = |s: &SlotSight| s.results().len();
     vec![
         row("28: one byte short", runs, |s| s.seen.one_short == NO_ROOM),
         row("28: no room", runs, |s| s.seen.no_room == NO_ROOM),
@@ -74,17 +74,17 @@ fn rows_of_rooms() -> Vec<Row<SlotSight>> {
         ),
         row(
             "28: the room ends in the slots",
-            move |s| runs(s) && s.seen.some.0 >= results(s) && s.seen.some.0 < s.report().len(),
+            move |s| runs(s) && s.seen.some.0 >= results(s) && s.seen.some.0 < s.length(),
             |s| s.seen.some.1 == NO_ROOM,
         ),
         row(
             "28: room for the results, none for the one slot",
-            move |s| runs(s) && s.size() == 1 && s.seen.some.0 >= results(s) && s.seen.some.0 < s.report().len(),
+            move |s| runs(s) && s.size() == 1 && s.seen.some.0 >= results(s) && s.seen.some.0 < s.length(),
             |s| s.seen.some.1 == NO_ROOM,
         ),
         row(
             "0: more room than the report takes",
-            move |s| runs(s) && s.seen.some.0 > s.report().len(),
+            move |s| runs(s) && s.seen.some.0 > s.length(),
             |s| s.seen.some.1 == s.seen.roomy,
         ),
     ]

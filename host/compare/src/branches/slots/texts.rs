@@ -24,23 +24,31 @@ pub struct SlotSight {
     slot_text: SlotText,
     /// What came back in each buffer.
     pub seen: Seen<u8>,
-    // The slots after the last step of one that runs, and the results and the slots as a report.
-    end: Option<(Threads, Vec<u8>)>,
+    end: Option<End>,
+    // Whether what came back is what the steps come to.
+    is_reported: bool,
+}
+
+/// What the steps of a slot plan that runs come to one by one.
+pub struct End {
+    /// The slots after the last step.
+    pub threads: Threads,
+    /// The results as text.
+    pub results: Vec<u8>,
+    /// The slots in use as text.
+    pub slots: Vec<u8>,
 }
 
 impl SlotSight {
-    /// The text, what came back, and, if it runs, the slots after its last step and the report that its steps come to one by one.
-    pub fn new(slot_text: SlotText, seen: Seen<u8>, end: Option<(Threads, Vec<u8>)>) -> SlotSight {
-        SlotSight { slot_text, seen, end }
+    /// The text, what came back, and what its steps come to if it runs.
+    pub fn new(slot_text: SlotText, seen: Seen<u8>, end: Option<End>) -> SlotSight {
+        let is_reported =
+            end.as_ref().is_some_and(|End { results, slots, .. }| seen.is_done(&[results.as_slice(), slots].concat()));
+        SlotSight { slot_text, seen, end, is_reported }
     }
 
     pub fn text(&self) -> &[u8] {
         &self.slot_text.text
-    }
-
-    /// What was written with more than enough room.
-    pub fn report(&self) -> &[u8] {
-        &self.seen.written
     }
 
     // The line of a fault that was put there.
@@ -86,41 +94,44 @@ impl SlotSight {
 
     /// Whether that slot is in use after the last step.
     pub fn ends_with(&self, slot: u8) -> bool {
-        self.end.as_ref().is_some_and(|(threads, _)| threads.held(slot).is_some())
+        self.end.as_ref().is_some_and(|end| end.threads.held(slot).is_some())
+    }
+
+    // The slots in use after the last step.
+    fn in_use(&self) -> impl Iterator<Item = u8> + '_ {
+        (0..SLOTS).filter(|slot| self.ends_with(*slot))
     }
 
     /// How many slots are in use after the last step.
     pub fn size(&self) -> usize {
-        (0..SLOTS).filter(|slot| self.ends_with(*slot)).count()
+        self.in_use().count()
     }
 
     /// Whether a free slot stands between two in use after the last step.
     pub fn has_gap(&self) -> bool {
-        let slots = || (0..SLOTS).filter(|slot| self.ends_with(*slot));
-        slots().zip(slots().skip(1)).any(|(one, next)| next > one + 1)
+        self.in_use().zip(self.in_use().skip(1)).any(|(one, next)| next > one + 1)
     }
 
-    /// Whether all slots in use after the last step hold what the sheet says, or none does.
+    /// Whether some slots are in use after the last step, and all of them hold what the sheet says, or none does.
     pub fn all_hold(&self, the_sheets: bool) -> bool {
-        let Some(((threads, _), plan)) = self.end.as_ref().zip(self.plan()) else { return false };
-        let held = (0..SLOTS).filter_map(|slot| threads.held(slot));
-        self.size() > 0 && held.into_iter().all(|held| (*held == plan.start) == the_sheets)
+        let Some((end, plan)) = self.end.as_ref().zip(self.plan()) else { return false };
+        let is_so = |slot: u8| (end.threads.held(slot) == Some(&plan.start)) == the_sheets;
+        self.size() > 0 && self.in_use().all(is_so)
     }
 
-    /// How many bytes of the report are results.
-    pub fn results_length(&self) -> usize {
-        let slots = (0..SLOTS).filter(|slot| self.ends_with(*slot)).map(|slot| format!("slot={slot}\n").len());
-        let sheets = (0..SLOTS).filter_map(|slot| self.end.as_ref()?.0.held(slot)).map(|held| {
-            let mut sheet = Vec::new();
-            plans::write_sheet(&mut sheet, held);
-            sheet.len()
-        });
-        self.report().len() - slots.sum::<usize>() - sheets.sum::<usize>()
+    /// The results of its steps as text; nothing if it does not run.
+    pub fn results(&self) -> &[u8] {
+        self.end.as_ref().map_or(&[], |end| &end.results)
+    }
+
+    /// How many bytes its report has to have; none if it does not run.
+    pub fn length(&self) -> usize {
+        self.end.as_ref().map_or(0, |end| end.results.len() + end.slots.len())
     }
 
     /// Whether the report is what the steps come to one by one, in every buffer that has room for it.
     pub fn is_reported(&self) -> bool {
-        self.end.as_ref().is_some_and(|(_, report)| self.seen.is_done(report))
+        self.is_reported
     }
 
     // Whether the text's line of that number is that of a slot of this value.
