@@ -1,5 +1,6 @@
 //! The times of a batch, as a row of a table.
 
+use crate::runs::{library, measure, second};
 use measured::batch::{Batch, Kind};
 use measured::times::{quantile, ratios, spread};
 use std::fmt;
@@ -19,20 +20,17 @@ impl Figures {
 | plans | steps | bytes a plan | program | plans/s | ns a plan | ns a step | ns a byte | second/library |
 |---|---|---|---|---|---|---|---|---|";
 
-    pub fn new(batch: &Batch) -> Figures {
-        Figures {
+    /// The times of both programs on a batch of plans, or the plan on which they differ.
+    pub fn of(batch: &Batch, rounds: usize) -> Result<Figures, String> {
+        let [library, second] = measure(batch, [library, second], rounds)?;
+        Ok(Figures {
             kind: batch.kind,
             steps: batch.steps,
             plans: batch.plans.len(),
             bytes: batch.bytes_a_plan(),
-            library: Vec::new(),
-            second: Vec::new(),
-        }
-    }
-
-    pub fn add(&mut self, library: f64, second: f64) {
-        self.library.push(library);
-        self.second.push(second);
+            library,
+            second,
+        })
     }
 
     /// A program's columns: plans a second, and the time a plan, a step and a byte. A broken plan is not read to its end, so that a step and a byte
