@@ -105,7 +105,7 @@ pub(crate) fn broken_by(random: &mut Random, fault: Fault, text: Vec<u8>, steps:
             let line = line_count(&text) + 1;
             (appended(random, text, steps), Some(line))
         }
-        Fault::TooManySteps => (text, Some(steps.line_of_step_257())),
+        Fault::TooManySteps => (lines::cut_in_step_257(random, text, steps), Some(steps.line_of_step_257())),
         Fault::ByteChanged | Fault::ByteInserted | Fault::ByteDeleted | Fault::BytesChanged => {
             (bytes_changed(random, fault, text), None)
         }

@@ -62,6 +62,11 @@ impl Sight {
         self.plan().map(|plan| plan.steps.len())
     }
 
+    /// How many newlines the text has.
+    fn lines(&self) -> u32 {
+        self.generated.text.iter().filter(|byte| **byte == b'\n').count() as u32
+    }
+
     fn is_malformed_where_broken(&self) -> bool {
         let expected = self.fault_line().map(|line| Outcome::Malformed { line });
         Some(self.outcome) == expected && self.one_short == self.outcome && self.no_room == self.outcome
@@ -107,6 +112,11 @@ fn rows_of_lines() -> Vec<Row<Sight>> {
     rows.push(malformed("70: in step 100 to 256".into(), |_, line| (511..=1295).contains(&line)));
     rows.push(malformed("70: line 1296, step 257".into(), |s, line| {
         line == LINE_OF_STEP_257 && s.fault() == Some(Fault::TooManySteps)
+    }));
+    rows.push(malformed("70: line 1296, step 257 cut short".into(), |s, line| {
+        line == LINE_OF_STEP_257
+            && s.fault() == Some(Fault::TooManySteps)
+            && s.lines() + 1 < LINE_OF_STEP_257 + STEP_LINES
     }));
     rows.push(malformed("70: line 1296, text after step 256".into(), |s, line| {
         line == LINE_OF_STEP_257 && s.fault() == Some(Fault::Appended)

@@ -83,3 +83,14 @@ pub(super) fn cut(random: &mut Random, fault: Fault, text: &[u8], at: usize, ste
     let kept = if random.one_in(3) { within } else { 1 + random.below(within) };
     (text[..start + kept].to_vec(), at + 1)
 }
+
+/// A text of more than 256 steps, whole or cut anywhere in step 257 after its first line, where it is told whatever stands there.
+pub(super) fn cut_in_step_257(random: &mut Random, mut text: Vec<u8>, steps: Steps) -> Vec<u8> {
+    if random.one_in(3) {
+        let ends = line_ends(&text);
+        let first = steps.line_of_step_257();
+        let (from, to) = (ends[first - 1], ends[first + steps.lines() - 2]);
+        text.truncate(from + random.below(to - from));
+    }
+    text
+}

@@ -51,6 +51,11 @@ impl SlotSight {
         &self.slot_text.text
     }
 
+    // How many newlines the text has.
+    fn lines(&self) -> u32 {
+        self.text().iter().filter(|byte| **byte == b'\n').count() as u32
+    }
+
     // The line of a fault that was put there.
     fn fault_line(&self) -> Option<u32> {
         match self.slot_text.kind {
@@ -216,6 +221,9 @@ fn rows_of_steps() -> Vec<Row<SlotSight>> {
         malformed("in step 100 to 255", |_, line| (610..=1545).contains(&line)),
         malformed("in step 256", |_, line| (1546..=1551).contains(&line)),
         malformed("line 1552, step 257", |s, line| line == LINE_OF_STEP_257 && is_by(s, Fault::TooManySteps)),
+        malformed("line 1552, step 257 cut short", |s, line| {
+            line == LINE_OF_STEP_257 && is_by(s, Fault::TooManySteps) && s.lines() + 1 < LINE_OF_STEP_257 + STEP_LINES
+        }),
         malformed("line 1552, text after step 256", |s, line| line == LINE_OF_STEP_257 && is_by(s, Fault::Appended)),
         malformed("line 1552, step 257 after the longest of 256", move |s, line| {
             line == LINE_OF_STEP_257 && is_long(s) && s.text()[LONGEST_PLAN - 1] == b'\n'
