@@ -3,8 +3,8 @@
 SHELL := /bin/bash
 .SHELLFLAGS := -o pipefail -euc
 
-# How many plans, how many sheets and attributes, and the names and status texts of how many seeds `make compare` runs; and what `make kernel` (docs/KERNEL.md) and
-# `make libcap` (docs/LIBCAP.md) are told besides.
+# How many plans, how many sheets and attributes, how many slot plans, and the names and status texts of how many seeds `make compare` runs; and what `make kernel`
+# (docs/KERNEL.md) and `make libcap` (docs/LIBCAP.md) are told besides.
 N = 1000000
 OPTIONS =
 
@@ -37,7 +37,7 @@ library:
 	@echo 'make library: proving and building the library' >&2
 	@rt staticlib capi >&2
 
-# The library and the second program on N plans, on N sheets and attributes, on 10 N texts in names and 2 N times three sets, and on 5 N status texts.
+# The library and the second program on N plans, on N sheets and attributes, on 10 N texts in names and 2 N times three sets, on 5 N status texts, and on N slot plans.
 compare: library
 	@$(CARGO_RUN) -p compare -- --count $(N)
 
@@ -49,7 +49,7 @@ mutants: library
 libcap: library
 	@$(CARGO_RUN) -p libcap -- $(OPTIONS)
 
-# The library's speed beside the second program's, on plans, texts in names and status texts, and in names beside libcap's.
+# The library's speed beside the second program's, on plans, slot plans, texts in names and status texts, and in names beside libcap's.
 bench: library
 	@$(CARGO_RUN) -p bench
 
