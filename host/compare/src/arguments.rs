@@ -89,6 +89,7 @@ mod tests {
         let arguments = read_words("--seed 7 --count 3 --table --first status").unwrap();
         assert_eq!((arguments.seed, arguments.count, arguments.table), (7, 3, true));
         assert_eq!(arguments.first, Part::Status);
+        assert_eq!(read_words("--first slots").unwrap().first, Part::Slots);
         assert_eq!(read_words("").unwrap().first, Part::Plans);
     }
 

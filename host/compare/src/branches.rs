@@ -42,7 +42,7 @@ pub use read_names::{Again, NamesRead};
 pub use read_sheet::SheetRead;
 pub use seen::{Answer, Seen};
 pub use sheet::LONGEST as LONGEST_SHEET;
-pub use slots::{End, Past, SlotMoment, SlotSight, LONGEST as LONGEST_SLOT_REPORT};
+pub use slots::{Before, End, Past, SlotMoment, SlotSight, LONGEST as LONGEST_SLOT_REPORT};
 pub use status::LONGEST as LONGEST_LIST;
 pub use texts::Sight;
 pub use write_attribute::AttributeWrite;

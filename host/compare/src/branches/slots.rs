@@ -10,7 +10,7 @@ mod reports;
 mod texts;
 mod unused_operands;
 
-pub use moment::SlotMoment;
+pub use moment::{Before, SlotMoment};
 pub use past::Past;
 pub use texts::{End, SlotSight};
 
@@ -78,6 +78,7 @@ impl Rows {
 mod tests {
     use super::super::Table;
     use super::*;
+    use plans::SlotStep;
     use second::{Credentials, SlotAnswer, Step, Threads};
 
     fn start() -> Credentials {
@@ -122,10 +123,11 @@ mod tests {
         after: &Threads,
     ) -> bool {
         let table = Table::new();
-        let last = Some((0, SlotAnswer { code: 0, value: 1, cause: 0 }));
-        let tables = (before.clone(), after.clone());
+        let (start, past) = (start(), Past::new());
+        let last = Some(SlotAnswer { code: 0, value: 1, cause: 0 });
+        let before = Before { start: &start, past: &past, index: 1, last, threads: before.clone() };
         let answer = SlotAnswer { code, value, cause };
-        let moment = SlotMoment::new(&start(), (&Past::new(), last), (slot, step), tables, answer);
+        let moment = SlotMoment::new(before, SlotStep { slot, step }, answer, after.clone());
         table.meet_slot_step(&moment, &mut table.counts()).is_ok()
     }
 

@@ -2,7 +2,7 @@
 
 use super::functions::{see, Fault, RunSlotPlan};
 use super::{against_the_table, scattered, Check, Tally};
-use crate::branches::{Counts, End, Moment, Past, SlotMoment, SlotSight, Table, LONGEST_SLOT_REPORT};
+use crate::branches::{Before, Counts, End, Moment, Past, SlotMoment, SlotSight, Table, LONGEST_SLOT_REPORT};
 use crate::buffers::Buffers;
 use crate::difference::{self, both, Checked, Difference};
 use plans::{write_result, write_sheet, write_slot, write_slot_step, SlotKind, SlotPlan, SlotStep};
@@ -77,14 +77,14 @@ impl<'a> SlotChecker<'a> {
         let mut past = Past::new();
         let mut last = None;
         let mut results = Vec::new();
-        for (index, SlotStep { slot, step }) in plan.steps.iter().enumerate() {
-            let before = threads.clone();
-            let answer = threads.step(*slot, step);
+        for (index, slot_step) in plan.steps.iter().enumerate() {
+            let before = Before { start: &plan.start, past: &past, index, last, threads: threads.clone() };
+            let answer = threads.step(slot_step.slot, &slot_step.step);
             write_result(&mut results, answer.code, answer.value, answer.cause);
-            let moment = SlotMoment::new(&plan.start, (&past, last), (*slot, step.clone()), (before, threads), answer);
+            let moment = SlotMoment::new(before, slot_step.clone(), answer, threads);
             self.meet(&moment).map_err(|what| Fault { what: against_the_table(&what), more: told(&moment) })?;
             past.follow(&moment);
-            last = Some((index, answer));
+            last = Some(answer);
             threads = moment.after;
             if index + 1 == stop_after {
                 let expected = [results.as_slice(), &slots_in_use(&threads)].concat();
@@ -165,6 +165,7 @@ fn told(moment: &SlotMoment) -> String {
 #[cfg(test)]
 mod tests {
     use super::*;
+    use second::Step;
 
     #[test]
     fn the_first_slot_plans_agree() {
@@ -178,5 +179,29 @@ mod tests {
         assert_eq!(checker.tally.inputs, 400);
         assert_eq!(checker.tally.runs, 5 * checker.tally.inputs);
         assert!(table.counted(&checker.counts).iter().filter(|(_, count)| *count > 0).count() > 500);
+    }
+
+    // Slot 1, which is free, is to exit; what if that came back, and the slots after it were those?
+    fn fault_where_it_came_to(code: u32, value: u64, cause: u32, forks: usize) -> Option<&'static str> {
+        let plans::SlotPlan { start, .. } = plans::measured_slots(1, 0, plans::MeasuredSlots::Forks);
+        let (past, before) = (Past::new(), Threads::new(start.clone()));
+        let step = |call: u8| Step { call, a: 0, b: 0, c: 0, attr: Vec::new() };
+        let mut after = before.clone();
+        (0..forks).for_each(|_| assert_eq!(after.step(0, &step(30)).code, 0));
+        let before = Before { start: &start, past: &past, index: 0, last: None, threads: before };
+        let slot_step = SlotStep { slot: 1, step: step(31) };
+        fault_of_any_step(&SlotMoment::new(before, slot_step, SlotAnswer { code, value, cause }, after))
+    }
+
+    #[test]
+    fn a_refused_step_changes_nothing_and_a_cause_comes_with_refusal_1_alone() {
+        assert_eq!(fault_where_it_came_to(3, 0, 0, 0), None);
+        let changes = Some("a refused step has value 0 and changes no slot");
+        assert_eq!(fault_where_it_came_to(3, 1, 0, 0), changes);
+        assert_eq!(fault_where_it_came_to(3, 0, 0, 1), changes);
+        for (code, cause) in [(3, 1), (11, 1), (22, 12), (0, 1), (1, 0), (1, 12)] {
+            let fault = fault_where_it_came_to(code, 0, cause, 0);
+            assert!(fault.is_some_and(|fault| fault.contains("a cause from 1 to 11")), "{code}, {cause}");
+        }
     }
 }

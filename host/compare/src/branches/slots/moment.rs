@@ -3,6 +3,7 @@
 use super::past::{Past, Slot};
 use super::{EXIT, FORK, SLOTS};
 use crate::branches::Row;
+use plans::SlotStep;
 use second::{Answer, Credentials, SlotAnswer, Step, Threads};
 
 /// Some slots: bit n is slot n.
@@ -23,6 +24,20 @@ pub enum Asked {
     Exit,
     /// Any other number in a slot in use.
     Call,
+}
+
+/// What there is before a step.
+pub struct Before<'p> {
+    /// The sheet's credentials.
+    pub start: &'p Credentials,
+    /// What has become of the slots.
+    pub past: &'p Past,
+    /// Which step comes, counted from 0.
+    pub index: usize,
+    /// What came back for the one before it, if there is one.
+    pub last: Option<SlotAnswer>,
+    /// The slots.
+    pub threads: Threads,
 }
 
 /// The table before a step, the step, what came back, and the table after it.
@@ -53,39 +68,32 @@ pub struct SlotMoment {
     pub left_in_free: Option<Credentials>,
     /// The slot that was freed last.
     pub last_freed: Option<u8>,
-    /// What the call comes to by the named slot's credentials alone; none for what is no call, and none where the slot is not in use.
+    /// What the call comes to by the named slot's credentials alone; none for a fork and an exit, and none where the slot is not in use.
     pub alone: Option<Answer>,
     /// What the call would come to by slot 0's, where it names another that is in use.
     pub in_slot_0: Option<Answer>,
 }
 
 impl SlotMoment {
-    /// The moment of a step: by which plan's start, which of its steps, what came before, and the table before; what came back, and the table after.
-    pub fn new(
-        start: &Credentials,
-        (past, last): (&Past, Option<(usize, SlotAnswer)>),
-        (slot, step): (u8, Step),
-        (before, after): (Threads, Threads),
-        answer: SlotAnswer,
-    ) -> SlotMoment {
-        let in_use = some_of_all(|slot| before.held(slot).is_some());
-        let changed = some_of_all(|slot| before.held(slot) != after.held(slot));
+    /// The moment of a step that was taken.
+    pub fn new(before: Before, SlotStep { slot, step }: SlotStep, answer: SlotAnswer, after: Threads) -> SlotMoment {
+        let Before { start, past, index, last, threads: before } = before;
         let mut moment = SlotMoment {
-            index: last.map_or(0, |(index, _)| index + 1),
-            last: last.map(|(_, answer)| answer),
+            in_use: some_of_all(|slot| before.held(slot).is_some()),
+            changed: some_of_all(|slot| before.held(slot) != after.held(slot)),
+            start: start.clone(),
             past: past.of(slot),
             last_freed: past.last_freed(),
             left_in_free: None,
             alone: None,
             in_slot_0: None,
-            start: start.clone(),
+            index,
+            last,
             slot,
             step,
             answer,
             before,
             after,
-            in_use,
-            changed,
         };
         moment.left_in_free = moment.lowest_free().and_then(|free| past.of(free).left);
         if moment.asked() == Asked::Call {
