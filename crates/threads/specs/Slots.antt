@@ -20,7 +20,7 @@ pub record Sized (table : Threads) : Type 0 where
   pub credentials : length (table .credentials) ≡ SLOTS
   pub used : length (table .used) ≡ SLOTS
 
--- a step is a fork; an exit; one of them; a call, or no call's number
+-- a step is a fork; an exit; or neither, and so a call, or a number that is no call's
 abbrev pub Fork : SlotStep → Type 0
 Fork s = eqb (s .step .number) FORK ≡ true
 
