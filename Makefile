@@ -35,7 +35,7 @@ run:
 # Proves the library and writes target/staticlib/libcapi.a, which host/binding and C programs link.
 library:
 	@echo 'make library: proving and building the library' >&2
-	@rt staticlib capi >&2
+	@host/library >&2
 
 # The library and the second program on N plans, on N sheets and attributes, on 10 N texts in names and 2 N times three sets, on 5 N status texts, and on N slot plans.
 compare: library

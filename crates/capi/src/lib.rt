@@ -1,4 +1,4 @@
-// The C interface, on byte slices and numbers, a number back: the plan runners, the readers and writers of sheets, attributes and sets in names, and the
+// The C interface, on byte slices and numbers, a number back: the plan runner, the readers and writers of sheets, attributes and sets in names, and the
 // comparison of a status text.
 //
 // In C a slice is a pointer and a length. No two slices of a call may overlap; any may be empty. The number is the code times 4294967296, plus a line,
@@ -10,7 +10,6 @@ ghost use lib.ListN.{length, drop};
 ghost use Rattle.attribute.specs.Reader.{reading};
 ghost use Rattle.format.specs.Sheet.{credentialsOf, readSheet, sheetValues};
 ghost use Rattle.format.specs.Report.{verdict, outcome, buffer, cNumber};
-ghost use Rattle.slot_format.specs.SlotReport.{slotVerdict};
 ghost use Rattle.names.specs.Reading.{readText};
 ghost use Rattle.names.specs.Writing.{namesAnswer, namesBuffer};
 ghost use Rattle.status.specs.Reading.{readStatus};
@@ -26,7 +25,6 @@ use codes::NO_ROOM;
 use credentials::Credentials;
 use credentials::Ids;
 use credentials::Sets;
-use format::Outcome;
 use format::SheetReading;
 use status::Status;
 
@@ -43,32 +41,17 @@ const NAMED_VALUES: usize = 3;
 // The largest place or line that the number has room for.
 const LARGEST_PLACE: usize = 0xffff_ffff;
 
-// The number of what a runner answers.
-fn number(ran: Outcome) -> u64
-    ensures { λ r. ⌜ r ≡ cNumber ran ⌝ }
-{
-    let code = ran.code as u64;
-    let line = ran.line as u64;
-    let length = ran.length as u64;
-    code * CODE + (line + length)
-}
-
 // Runs the plan and writes its report at the front of the buffer: the code times 4294967296, plus the line of a fault (70) or the report's length
 // (0). A plan that is refused leaves the buffer as it was.
 #[no_mangle]
 pub extern "C" fn urrezkalu_run_plan(plan: &[u8], report: &mut [u8]) -> u64
     ensures { λ r. ⌜ (r ≡ cNumber (outcome (verdict (now (plan .entry))) (length (now (report .entry))))) × (now (report .exit) ≡ buffer (verdict (now (plan .entry))) (now (report .entry))) ⌝ }
 {
-    number(plan::run_plan(plan, report))
-}
-
-// Runs the slot plan and writes its report at the front of the buffer: the code times 4294967296, plus the line of a fault (70) or the report's length
-// (0). A slot plan that is refused leaves the buffer as it was.
-#[no_mangle]
-pub extern "C" fn urrezkalu_run_slot_plan(plan: &[u8], report: &mut [u8]) -> u64
-    ensures { λ r. ⌜ (r ≡ cNumber (outcome (slotVerdict (now (plan .entry))) (length (now (report .entry))))) × (now (report .exit) ≡ buffer (slotVerdict (now (plan .entry))) (now (report .entry))) ⌝ }
-{
-    number(plan::run_slot_plan(plan, report))
+    let ran = plan::run_plan(plan, report);
+    let code = ran.code as u64;
+    let line = ran.line as u64;
+    let length = ran.length as u64;
+    code * CODE + (line + length)
 }
 
 // Reads a text that is to be a sheet: 70 with the line of its fault, 72 where its credentials are not valid, 28 where values is shorter than
