@@ -76,7 +76,7 @@
  * what is still to be read, and neither the number nor any byte of either means anything.
  *
  * Nothing is allocated, and nothing is kept from one call to the next: any number of threads may call at once, each with a buffer of its own,
- * and so may a signal handler. The time is in proportion to the text. urrezkalu_run_slot_plan needs some 42 KB of stack, urrezkalu_run_plan
+ * and so may a signal handler. The time is in proportion to the text. urrezkalu_run_slot_plan needs some 41 KiB of stack, urrezkalu_run_plan
  * some 4.5 KiB, urrezkalu_compare_status less than 2 KiB, the others less than 1.5 KiB. */
 #ifndef URREZKALU_H
 #define URREZKALU_H

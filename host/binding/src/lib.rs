@@ -12,7 +12,7 @@
 //!   differs; [`differences`] takes a list apart.
 //!
 //! Every input gets an answer; nothing panics and nothing is allocated. Nothing is kept from one call to the next, so that any number of threads
-//! may call at once. A slot plan's run needs some 42 KB of stack, a plan's some 4.5 KiB, a comparison less than 2 KiB, the other functions less than
+//! may call at once. A slot plan's run needs some 41 KiB of stack, a plan's some 4.5 KiB, a comparison less than 2 KiB, the other functions less than
 //! 1.5 KiB.
 //!
 //! ```
