@@ -9,8 +9,11 @@ pub(crate) const LARGEST_SIZE: usize = 32;
 // What `digit` answers where there is none.
 const NO_DIGIT: u64 = 16;
 
-// A value below this takes one more digit.
-const ROOM_FOR_A_DIGIT: u64 = 0x1000_0000_0000_0000;
+// A value below this takes one more hex digit.
+const ROOM_FOR_HEX: u64 = 0x1000_0000_0000_0000;
+
+// A value below this takes one more decimal digit; the largest one only up to 5.
+const ROOM_FOR_DECIMAL: u64 = 1844674407370955162;
 
 // A number of a row, and where it ends.
 pub(crate) struct Value {
@@ -57,9 +60,9 @@ fn with_digit(value: u64, is_hex: bool, next: u64) -> u64
     requires { ⌜ next ≤ 15 ⌝ }
 {
     if is_hex {
-        return value % ROOM_FOR_A_DIGIT * 16 + next;
+        return value % ROOM_FOR_HEX * 16 + next;
     }
-    value % ROOM_FOR_A_DIGIT * 10 + next
+    std::num::wrapping_add_u64(value % ROOM_FOR_DECIMAL * 10, next)
 }
 
 // How many bytes the row's last field has, two digits each.

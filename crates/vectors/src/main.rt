@@ -9,7 +9,7 @@ mod attributes;
 mod fields;
 mod named;
 mod output;
-mod threads;
+mod thread;
 
 use libc::STDIN_FILENO;
 ghost use Prim.Native.Nat.{_≤_};
@@ -60,7 +60,7 @@ fn show_line(line: &[u8]) {
         b'r' => attributes::show_reading(line),
         b't' => named::show_text(line),
         b'w' => attributes::show_writing(line),
-        b'v' => threads::show_validity(line),
-        _ => threads::show_call(line),
+        b'v' => thread::show_validity(line),
+        _ => thread::show_call(line),
     }
 }

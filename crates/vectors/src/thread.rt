@@ -6,14 +6,14 @@ use credentials::Ids;
 use credentials::Sets;
 
 // The credentials of a row, and where they end.
-struct Start {
-    given: Credentials,
-    end: usize,
+pub(crate) struct Start {
+    pub given: Credentials,
+    pub end: usize,
 }
 
 // The four user IDs and the four group IDs (decimal), the five sets (hex), securebits (hex) and no-new-privs.
-fn start_of(row: &[u8]) -> Start {
-    let users = ids_of(row, 0);
+pub(crate) fn start_of(row: &[u8], from: usize) -> Start {
+    let users = ids_of(row, from);
     let groups = ids_of(row, users.end);
     let held = sets_of(row, groups.end);
     let uids = users.given;
@@ -84,14 +84,14 @@ fn sets_of(row: &[u8], from: usize) -> Held {
 
 // Whether the row's credentials are valid.
 pub(crate) fn show_validity(row: &[u8]) {
-    let given = start_of(row).given;
+    let given = start_of(row, 0).given;
     output::flag(b"valid=", credentials::is_valid(given));
     output::text(b"\n");
 }
 
 // The answer to the call whose number (decimal), operands (hex) and attribute bytes follow the credentials.
 pub(crate) fn show_call(row: &[u8]) {
-    let start = start_of(row);
+    let start = start_of(row, 0);
     let number = fields::decimal(row, start.end);
     let a = fields::hex(row, number.end);
     let b = fields::hex(row, a.end);
@@ -106,14 +106,22 @@ pub(crate) fn show_call(row: &[u8]) {
         c.value,
         &bytes[0..size],
     );
-    output::decimal(b"code=", codes::wide(answers::code(answer)));
-    output::hex(b" value=", answers::value(answer), 1);
-    output::decimal(b" cause=", codes::wide(answers::cause(answer)));
+    show_answer(
+        answers::code(answer),
+        answers::value(answer),
+        answers::cause(answer),
+    );
     show_credentials(answers::after(start.given, answer));
     output::text(b"\n");
 }
 
-fn show_credentials(given: Credentials) {
+pub(crate) fn show_answer(code: u8, value: u64, cause: u8) {
+    output::decimal(b"code=", codes::wide(code));
+    output::hex(b" value=", value, 1);
+    output::decimal(b" cause=", codes::wide(cause));
+}
+
+pub(crate) fn show_credentials(given: Credentials) {
     show_ids(b" uids=", given.uids);
     show_ids(b" gids=", given.gids);
     output::hex(b" sets=", given.sets.permitted, 1);
