@@ -4,11 +4,13 @@
 //
 // A row is fields `key=value` or `key=value,value,..`, apart by spaces. Its first letter says what it is: `#` a remark, which is printed
 // and no more; `r` an attribute to be read; `w` one to be written; `t` a text in names to be read, up to the end of the line; `n` sets to be
-// written in names; `v` credentials, whether they are valid; else credentials and a call.
+// written in names; `v` credentials, whether they are valid; `s` a step in a slot of a table of threads; else credentials and a call.
 mod attributes;
 mod fields;
 mod named;
 mod output;
+mod steps;
+mod tables;
 mod thread;
 
 use libc::STDIN_FILENO;
@@ -58,6 +60,7 @@ fn show_line(line: &[u8]) {
         b'#' => (),
         b'n' => named::show_written(line),
         b'r' => attributes::show_reading(line),
+        b's' => steps::show_step(line),
         b't' => named::show_text(line),
         b'w' => attributes::show_writing(line),
         b'v' => thread::show_validity(line),
