@@ -2,7 +2,7 @@
 //
 // Every function is proved, for every argument: none has a `requires`. The crate assumes nothing.
 ghost use Rattle.std.specs.Prelude.{◌≡◌};
-ghost use Rattle.rules.specs.Answers.{after, cause, causeNumber, code, value};
+ghost use Rattle.rules.specs.Answers.{after, cause, cause_number, code, value};
 
 use codes::{DONE, INVALID_ARGUMENT, INVALID_CREDENTIALS, NOT_PERMITTED, UNREADABLE_ATTRIBUTE};
 use credentials::Credentials;
@@ -49,7 +49,7 @@ pub fn cause(answer: Answer) -> u8
 
 // The number of a cause.
 fn cause_number(why: Cause) -> u8
-    ensures { result ≡ causeNumber why }
+    ensures { result ≡ cause_number why }
 {
     match why {
         Cause::CapabilityNotEffective => 1,

@@ -18,5 +18,5 @@ unfoldable pub word_bytes : ℕ → List ℕ
 word_bytes w = w % 0x100 ∷ w / 0x100 % 0x100 ∷ w / 0x10000 % 0x100 ∷ w / 0x1000000 % 0x100 ∷ []
 
 -- a set from its low and its high word
-abbrev pub setOf : ℕ → ℕ → ℕ
-setOf low high = low + 0x100000000 * high
+abbrev pub set_of : ℕ → ℕ → ℕ
+set_of low high = low + 0x100000000 * high

@@ -1,8 +1,8 @@
 // Reading an attribute of version 1 or 2 from bytes of any length and content. Each private function computes the
 // definition in specs/Reader.antt or specs/Words.antt that its contract names.
 ghost use Rattle.std.specs.Prelude.{◌≡◌, ◌≤◌, ◌<◌};
-ghost use Rattle.attribute.specs.Words.{byte_at, setOf, word_at};
-ghost use Rattle.attribute.specs.Reader.{bitsAbove40, fileOf, length_of, reading, readingCode, unreadable, version1, version2};
+ghost use Rattle.attribute.specs.Words.{byte_at, set_of, word_at};
+ghost use Rattle.attribute.specs.Reader.{bits_above40, file_of, length_of, reading, reading_code, unreadable, version1, version2};
 
 use crate::{
     FIRST_WORD, FileCapabilities, INHERITABLE_HIGH, INHERITABLE_LOW, PERMITTED_HIGH, PERMITTED_LOW,
@@ -34,7 +34,7 @@ pub fn read(bytes: &[u8]) -> Reading
 
 // The number that a reading answers: 0, or 60 where it is unreadable.
 pub fn reading_code(answer: Reading) -> u8
-    ensures { result ≡ readingCode answer }
+    ensures { result ≡ reading_code answer }
 {
     match answer {
         Reading::File(_) => DONE,
@@ -66,13 +66,13 @@ fn length_of(version: u64) -> usize
 }
 
 pub(crate) fn has_bits_above_40(permitted: u64, inheritable: u64) -> bool
-    ensures { result ≡ bitsAbove40 permitted inheritable }
+    ensures { result ≡ bits_above40 permitted inheritable }
 {
     sets::outside(permitted | inheritable, sets::FULL)
 }
 
 fn file_of(bytes: &[u8]) -> FileCapabilities
-    ensures { result ≡ fileOf bytes.now }
+    ensures { result ≡ file_of bytes.now }
 {
     if word(bytes, FIRST_WORD) / REVISION_UNIT == 1 {
         return version_1(bytes);
@@ -105,7 +105,7 @@ fn version_2(bytes: &[u8]) -> FileCapabilities
 // A set from its low and its high word.
 fn set_of(low: u64, high: u64) -> u64
     requires { (low < 0x100000000) × (high < 0x100000000) }
-    ensures { result ≡ setOf low high }
+    ensures { result ≡ set_of low high }
 {
     low + WORD * high
 }

@@ -2,7 +2,7 @@
 ghost use Rattle.std.specs.Prelude.{◌≡◌, ◌+◌, ◌≤◌, length};
 ghost use Rattle.std.proofs.lemmas.List.Edits.{sets};
 ghost use Rattle.attribute.specs.Words.{word_bytes};
-ghost use Rattle.attribute.specs.Writer.{bufferAfter, firstWord, refused, version2Bytes, written};
+ghost use Rattle.attribute.specs.Writer.{buffer_after, first_word, refused, version2_bytes, written};
 
 use crate::reader::has_bits_above_40;
 use crate::{
@@ -22,7 +22,7 @@ const VERSION_2_LENGTH: u32 = 20;
 // Writes two sets and an effective bit as a version 2 attribute at the start of buffer: 22 where a set has a bit above 40, then 28 where buffer
 // is shorter than 20 bytes, and in both cases nothing is written; else 20 bytes, and those past them stay.
 pub fn write(permitted: u64, inheritable: u64, effective: bool, buffer: &mut [u8]) -> Written
-    ensures { (result ≡ written permitted inheritable (length buffer.old)) × (buffer.new ≡ bufferAfter permitted inheritable effective buffer.old) }
+    ensures { (result ≡ written permitted inheritable (length buffer.old)) × (buffer.new ≡ buffer_after permitted inheritable effective buffer.old) }
 {
     if has_bits_above_40(permitted, inheritable) {
         return refused(INVALID_ARGUMENT);
@@ -48,7 +48,7 @@ fn refused(number: u8) -> Written
 
 fn put_words(permitted: u64, inheritable: u64, effective: bool, buffer: &mut [u8])
     requires { 20 ≤ length buffer.old }
-    ensures { buffer.new ≡ sets buffer.old 0 (version2Bytes permitted inheritable effective) }
+    ensures { buffer.new ≡ sets buffer.old 0 (version2_bytes permitted inheritable effective) }
 {
     put_word(first_word(effective), buffer, FIRST_WORD);
     put_word(permitted % WORD, buffer, PERMITTED_LOW);
@@ -58,7 +58,7 @@ fn put_words(permitted: u64, inheritable: u64, effective: bool, buffer: &mut [u8
 }
 
 fn first_word(effective: bool) -> u64
-    ensures { result ≡ firstWord effective }
+    ensures { result ≡ first_word effective }
 {
     if effective {
         return VFS_CAP_REVISION_2 + VFS_CAP_FLAGS_EFFECTIVE;

@@ -1,6 +1,6 @@
 // The ambient set, calls 5 to 8.
 ghost use Rattle.std.specs.Prelude.{◌≡◌};
-ghost use Rattle.rules.specs.Ambient.{ambientClearAll, ambientIsSet, ambientLower, ambientRaise};
+ghost use Rattle.rules.specs.Ambient.{ambient_clear_all, ambient_is_set, ambient_lower, ambient_raise};
 
 use capabilities::sets;
 use credentials::Credentials;
@@ -9,7 +9,7 @@ use rules::{Answer, Cause};
 
 // Call 5: a capability of both P and I comes into the ambient set, unless NO_CAP_AMBIENT_RAISE is set.
 pub(crate) fn ambient_raise(start: Credentials, capability: u64) -> Answer
-    ensures { result ≡ ambientRaise start capability }
+    ensures { result ≡ ambient_raise start capability }
 {
     if sets::lacks(start.sets.permitted, capability)
         | sets::lacks(start.sets.inheritable, capability)
@@ -30,7 +30,7 @@ pub(crate) fn ambient_raise(start: Credentials, capability: u64) -> Answer
 
 // Call 6: a capability leaves the ambient set. Nothing is needed.
 pub(crate) fn ambient_lower(start: Credentials, capability: u64) -> Answer
-    ensures { result ≡ ambientLower start capability }
+    ensures { result ≡ ambient_lower start capability }
 {
     let ambient = sets::difference(start.sets.ambient, sets::single(capability));
     let mut next = start;
@@ -43,7 +43,7 @@ pub(crate) fn ambient_lower(start: Credentials, capability: u64) -> Answer
 
 // Call 7: 1 where a capability is in the ambient set.
 pub(crate) fn ambient_is_set(start: Credentials, capability: u64) -> Answer
-    ensures { result ≡ ambientIsSet start capability }
+    ensures { result ≡ ambient_is_set start capability }
 {
     Answer::Done {
         value: sets::has(start.sets.ambient, capability) as u64,
@@ -53,7 +53,7 @@ pub(crate) fn ambient_is_set(start: Credentials, capability: u64) -> Answer
 
 // Call 8: the ambient set is emptied.
 pub(crate) fn ambient_clear_all(start: Credentials) -> Answer
-    ensures { result ≡ ambientClearAll start }
+    ensures { result ≡ ambient_clear_all start }
 {
     let mut next = start;
     next.sets.ambient = 0;

@@ -1,6 +1,6 @@
 // The bounding set, calls 3 and 4.
 ghost use Rattle.std.specs.Prelude.{◌≡◌};
-ghost use Rattle.rules.specs.Bounding.{boundingDrop, boundingRead};
+ghost use Rattle.rules.specs.Bounding.{bounding_drop, bounding_read};
 
 use capabilities::header::CAP_SETPCAP;
 use capabilities::sets;
@@ -9,7 +9,7 @@ use rules::{Answer, Cause};
 
 // Call 3: a capability leaves the bounding set, for a thread with SETPCAP. The other sets stay.
 pub(crate) fn bounding_drop(start: Credentials, capability: u64) -> Answer
-    ensures { result ≡ boundingDrop start capability }
+    ensures { result ≡ bounding_drop start capability }
 {
     if sets::lacks(start.sets.effective, CAP_SETPCAP) {
         return Answer::NotPermitted(Cause::CapabilityNotEffective);
@@ -25,7 +25,7 @@ pub(crate) fn bounding_drop(start: Credentials, capability: u64) -> Answer
 
 // Call 4: 1 where a capability is in the bounding set.
 pub(crate) fn bounding_read(start: Credentials, capability: u64) -> Answer
-    ensures { result ≡ boundingRead start capability }
+    ensures { result ≡ bounding_read start capability }
 {
     Answer::Done {
         value: sets::has(start.sets.bounding, capability) as u64,

@@ -1,7 +1,7 @@
 // The ID calls 19 to 22 on group IDs: setgid(2), setregid(2), setresgid(2) and setfsgid(2), by the rules of 15 to 18 with SETGID. Nothing but the
 // group IDs changes.
 ghost use Rattle.std.specs.Prelude.{◌≡◌};
-ghost use Rattle.rules.specs.Ids.{filesystemGroupIdChanged, groupIdsChanged, setfsgid, setgid, setregid, setresgid};
+ghost use Rattle.rules.specs.Ids.{filesystem_group_id_changed, group_ids_changed, setfsgid, setgid, setregid, setresgid};
 
 use crate::ids;
 use capabilities::header::CAP_SETGID;
@@ -46,7 +46,7 @@ pub(crate) fn setfsgid(start: Credentials, id: u64) -> Answer
 
 // Calls 19 to 21: the new group IDs, or refused.
 fn group_ids_changed(start: Credentials, new: NewIds) -> Answer
-    ensures { result ≡ groupIdsChanged start new }
+    ensures { result ≡ group_ids_changed start new }
 {
     let NewIds::Allowed(gids) = new else {
         return Answer::NotPermitted(Cause::IdNotAllowed);
@@ -61,7 +61,7 @@ fn group_ids_changed(start: Credentials, new: NewIds) -> Answer
 
 // Call 22: the new group IDs, or nothing changes.
 fn filesystem_group_id_changed(start: Credentials, new: NewIds) -> Answer
-    ensures { result ≡ filesystemGroupIdChanged start new }
+    ensures { result ≡ filesystem_group_id_changed start new }
 {
     let old = start.gids;
     let NewIds::Allowed(gids) = new else {

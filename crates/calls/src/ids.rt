@@ -1,13 +1,13 @@
 // What the ID calls allow and give, of user IDs and of group IDs alike: a matter of four IDs, the operands, and whether any ID may be set.
 ghost use Rattle.std.specs.Prelude.{◌≡◌};
-ghost use Rattle.rules.specs.Ids.{givenOr, oneOfThree, setfsuidOn, setresuidIds, setresuidOn, setreuidIds, setreuidOn, setreuidSaved, setuidIds, setuidOn};
+ghost use Rattle.rules.specs.Ids.{given_or, one_of_three, setfsuid_on, setresuid_ids, setresuid_on, setreuid_ids, setreuid_on, setreuid_saved, setuid_ids, setuid_on};
 
 use credentials::{Ids, NO_ID};
 use rules::NewIds;
 
 // The new ID: the one given, or else the old one.
 fn given_or(old: u64, operand: u64) -> u64
-    ensures { result ≡ givenOr old operand }
+    ensures { result ≡ given_or old operand }
 {
     if operand == NO_ID {
         return old;
@@ -17,14 +17,14 @@ fn given_or(old: u64, operand: u64) -> u64
 
 // Whether an ID is the real, the effective or the saved one.
 pub(crate) fn one_of_three(ids: Ids, id: u64) -> bool
-    ensures { result ≡ oneOfThree ids id }
+    ensures { result ≡ one_of_three ids id }
 {
     (id == ids.real) | (id == ids.effective) | (id == ids.saved)
 }
 
 // setuid and setgid: any ID where any may be set, and else the real or the saved one.
 pub(crate) fn setuid(any: bool, old: Ids, id: u64) -> NewIds
-    ensures { result ≡ setuidOn any old id }
+    ensures { result ≡ setuid_on any old id }
 {
     if any | (id == old.real) | (id == old.saved) {
         return NewIds::Allowed(setuid_ids(any, old, id));
@@ -34,7 +34,7 @@ pub(crate) fn setuid(any: bool, old: Ids, id: u64) -> NewIds
 
 // setuid: the new IDs. All four change where any ID may be set, and else the effective and the filesystem ID.
 fn setuid_ids(any: bool, old: Ids, id: u64) -> Ids
-    ensures { result ≡ setuidIds any old id }
+    ensures { result ≡ setuid_ids any old id }
 {
     let mut next = old;
     next.effective = id;
@@ -49,7 +49,7 @@ fn setuid_ids(any: bool, old: Ids, id: u64) -> Ids
 
 // setreuid and setregid: where not any ID may be set, the real ID goes to the real or the effective one, and the effective ID to one of the three.
 pub(crate) fn setreuid(any: bool, old: Ids, real: u64, effective: u64) -> NewIds
-    ensures { result ≡ setreuidOn any old real effective }
+    ensures { result ≡ setreuid_on any old real effective }
 {
     let new = setreuid_ids(old, real, effective);
     let among = one_of_three(old, new.effective);
@@ -61,7 +61,7 @@ pub(crate) fn setreuid(any: bool, old: Ids, real: u64, effective: u64) -> NewIds
 
 // setreuid: the new IDs. The filesystem ID is the effective one.
 fn setreuid_ids(old: Ids, real: u64, effective: u64) -> Ids
-    ensures { result ≡ setreuidIds old real effective }
+    ensures { result ≡ setreuid_ids old real effective }
 {
     let mut next = old;
     next.real = given_or(old.real, real);
@@ -73,7 +73,7 @@ fn setreuid_ids(old: Ids, real: u64, effective: u64) -> Ids
 
 // setreuid: the saved ID becomes the new effective one where real is given, or effective is given and is not the old real.
 fn setreuid_saved(old: Ids, real: u64, effective: u64) -> u64
-    ensures { result ≡ setreuidSaved old real effective }
+    ensures { result ≡ setreuid_saved old real effective }
 {
     if (real != NO_ID) | ((effective != NO_ID) & (effective != old.real)) {
         return given_or(old.effective, effective);
@@ -83,7 +83,7 @@ fn setreuid_saved(old: Ids, real: u64, effective: u64) -> u64
 
 // setresuid and setresgid: where not any ID may be set, each of the three goes to one of the old three.
 pub(crate) fn setresuid(any: bool, old: Ids, real: u64, effective: u64, saved: u64) -> NewIds
-    ensures { result ≡ setresuidOn any old real effective saved }
+    ensures { result ≡ setresuid_on any old real effective saved }
 {
     let new = setresuid_ids(old, real, effective, saved);
     let among = one_of_three(old, new.real)
@@ -97,7 +97,7 @@ pub(crate) fn setresuid(any: bool, old: Ids, real: u64, effective: u64, saved: u
 
 // setresuid: the new IDs. The filesystem ID is the effective one.
 fn setresuid_ids(old: Ids, real: u64, effective: u64, saved: u64) -> Ids
-    ensures { result ≡ setresuidIds old real effective saved }
+    ensures { result ≡ setresuid_ids old real effective saved }
 {
     let mut next = old;
     next.real = given_or(old.real, real);
@@ -109,7 +109,7 @@ fn setresuid_ids(old: Ids, real: u64, effective: u64, saved: u64) -> Ids
 
 // setfsuid and setfsgid: the filesystem ID goes to any of the four, or where any ID may be set to any that is given.
 pub(crate) fn setfsuid(any: bool, old: Ids, id: u64) -> NewIds
-    ensures { result ≡ setfsuidOn any old id }
+    ensures { result ≡ setfsuid_on any old id }
 {
     let mut next = old;
     if (id != NO_ID) & (any | one_of_three(old, id) | (id == old.filesystem)) {

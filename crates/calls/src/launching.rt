@@ -1,6 +1,6 @@
 // Launching, call 1: execve(2) of a file with an owner, flags, a group and an attribute.
 ghost use Rattle.std.specs.Prelude.{◌≡◌};
-ghost use Rattle.rules.specs.Launching.{changesEffective, counted, countedSet, effectiveId, fallsShort, fileRead, gained, ignoresSetId, inForce, launch, launched, launchedAmbient, launchedEffective, launchedIds, launchedSets, rootCounts};
+ghost use Rattle.rules.specs.Launching.{changes_effective, counted, counted_set, effective_id, falls_short, file_read, gained, ignores_set_id, in_force, launch, launched, launched_ambient, launched_effective, launched_ids, launched_sets, root_counts};
 
 use attribute::{FileCapabilities, Reading};
 use capabilities::sets;
@@ -48,7 +48,7 @@ pub(crate) fn launch(
 
 // Launching, a: an attribute that is ignored is not read and counts as not attached.
 fn file_read(nnp: bool, flags: u64, attribute: &[u8]) -> Reading
-    ensures { result ≡ fileRead nnp flags attribute.now }
+    ensures { result ≡ file_read nnp flags attribute.now }
 {
     if ignores_set_id(nnp, flags) | (flags & NO_FILE_CAPS != 0) {
         return Reading::File(FileCapabilities {
@@ -63,14 +63,14 @@ fn file_read(nnp: bool, flags: u64, attribute: &[u8]) -> Reading
 
 // Launching, a: whether the set-ID bits are ignored.
 fn ignores_set_id(nnp: bool, flags: u64) -> bool
-    ensures { result ≡ ignoresSetId nnp flags }
+    ensures { result ≡ ignores_set_id nnp flags }
 {
     nnp | (flags & NOSUID != 0) | (flags & TRACED != 0)
 }
 
 // Launching, a and b: whether a set-ID bit is set and not ignored.
 fn in_force(nnp: bool, flags: u64, bit: u64) -> bool
-    ensures { result ≡ inForce nnp flags bit }
+    ensures { result ≡ in_force nnp flags bit }
 {
     (flags & bit != 0) & !ignores_set_id(nnp, flags)
 }
@@ -104,7 +104,7 @@ fn launched(
 
 // Launching, b, of user IDs and of group IDs alike: the saved and the filesystem ID follow the effective one.
 fn launched_ids(force: bool, id: u64, old: Ids) -> Ids
-    ensures { result ≡ launchedIds force id old }
+    ensures { result ≡ launched_ids force id old }
 {
     let effective = effective_id(force, id, old);
     let mut next = old;
@@ -116,7 +116,7 @@ fn launched_ids(force: bool, id: u64, old: Ids) -> Ids
 
 // Launching, b: the effective ID, which a set-ID bit in force makes the file's.
 fn effective_id(force: bool, id: u64, old: Ids) -> u64
-    ensures { result ≡ effectiveId force id old }
+    ensures { result ≡ effective_id force id old }
 {
     if force {
         return id;
@@ -141,7 +141,7 @@ fn counted(securebits: u64, uids: Ids, file: FileCapabilities) -> FileCapabiliti
 
 // Launching, c: one of the file's sets as it counts, full for root.
 fn counted_set(securebits: u64, uids: Ids, file: FileCapabilities, own: u64) -> u64
-    ensures { result ≡ countedSet securebits uids file own }
+    ensures { result ≡ counted_set securebits uids file own }
 {
     if root_counts(securebits, uids, file) & ((uids.real == 0) | (uids.effective == 0)) {
         return sets::FULL;
@@ -152,7 +152,7 @@ fn counted_set(securebits: u64, uids: Ids, file: FileCapabilities, own: u64) -> 
 // Launching, c: whether root counts for more: NOROOT is clear, and it is not the exception of an attribute that is
 // attached with an effective ID of 0 alone.
 fn root_counts(securebits: u64, uids: Ids, file: FileCapabilities) -> bool
-    ensures { result ≡ rootCounts securebits uids file }
+    ensures { result ≡ root_counts securebits uids file }
 {
     let keeps_own = file.attached & (uids.real != 0) & (uids.effective == 0);
     !(securebits & SECBIT_NOROOT != 0) & !keeps_own
@@ -160,14 +160,14 @@ fn root_counts(securebits: u64, uids: Ids, file: FileCapabilities) -> bool
 
 // Launching, d: whether a set-ID bit counts: in force, it makes the effective ID differ from what it was.
 fn changes_effective(force: bool, id: u64, old: Ids) -> bool
-    ensures { result ≡ changesEffective force id old }
+    ensures { result ≡ changes_effective force id old }
 {
     force & (id != old.effective)
 }
 
 // Launching, d: the ambient set, which a privileged file empties: one whose attribute counts, or a set-ID bit of it.
 fn launched_ambient(privileged: bool, ambient: u64) -> u64
-    ensures { result ≡ launchedAmbient privileged ambient }
+    ensures { result ≡ launched_ambient privileged ambient }
 {
     if privileged {
         return 0;
@@ -184,7 +184,7 @@ fn gained(held: Sets, file: FileCapabilities) -> u64
 
 // Launching, e: the sets from the file as it counts and the new ambient set. The inheritable and the bounding set stay.
 fn launched_sets(held: Sets, file: FileCapabilities, ambient: u64) -> Sets
-    ensures { result ≡ launchedSets held file ambient }
+    ensures { result ≡ launched_sets held file ambient }
 {
     let permitted = gained(held, file) | ambient;
     let mut next = held;
@@ -196,7 +196,7 @@ fn launched_sets(held: Sets, file: FileCapabilities, ambient: u64) -> Sets
 
 // Launching, e: the effective set, which is the new permitted one where the file's bit counts as on.
 fn launched_effective(on: bool, permitted: u64, ambient: u64) -> u64
-    ensures { result ≡ launchedEffective on permitted ambient }
+    ensures { result ≡ launched_effective on permitted ambient }
 {
     if on {
         return permitted;
@@ -206,7 +206,7 @@ fn launched_effective(on: bool, permitted: u64, ambient: u64) -> u64
 
 // Launching, f: whether the file's own bit is on and its own permitted set is not given whole.
 fn falls_short(held: Sets, file: FileCapabilities) -> bool
-    ensures { result ≡ fallsShort held file }
+    ensures { result ≡ falls_short held file }
 {
     file.effective & sets::outside(file.permitted, gained(held, file))
 }

@@ -1,6 +1,6 @@
 // Securebits, calls 9 and 10.
 ghost use Rattle.std.specs.Prelude.{◌≡◌};
-ghost use Rattle.rules.specs.Securebits.{getSecurebits, setSecurebits};
+ghost use Rattle.rules.specs.Securebits.{get_securebits, set_securebits};
 
 use capabilities::header::CAP_SETPCAP;
 use capabilities::sets;
@@ -12,7 +12,7 @@ const ALL_LOCKS: u64 = 0xaa;
 
 // Call 9: needs SETPCAP. A lock that is set stays, and a flag that is locked stays as it is.
 pub(crate) fn set_securebits(start: Credentials, bits: u64) -> Answer
-    ensures { result ≡ setSecurebits start bits }
+    ensures { result ≡ set_securebits start bits }
 {
     if sets::lacks(start.sets.effective, CAP_SETPCAP) {
         return Answer::NotPermitted(Cause::CapabilityNotEffective);
@@ -35,7 +35,7 @@ pub(crate) fn set_securebits(start: Credentials, bits: u64) -> Answer
 
 // Call 10: all the bits.
 pub(crate) fn get_securebits(start: Credentials) -> Answer
-    ensures { result ≡ getSecurebits start }
+    ensures { result ≡ get_securebits start }
 {
     Answer::Done {
         value: start.securebits,

@@ -1,6 +1,6 @@
 // Keep-caps and no-new-privs, calls 11 to 14.
 ghost use Rattle.std.specs.Prelude.{◌≡◌};
-ghost use Rattle.rules.specs.ThreadFlags.{getKeepCaps, getNoNewPrivs, setKeepCaps, setNoNewPrivs};
+ghost use Rattle.rules.specs.ThreadFlags.{get_keep_caps, get_no_new_privs, set_keep_caps, set_no_new_privs};
 
 use capabilities::sets;
 use credentials::Credentials;
@@ -9,7 +9,7 @@ use rules::{Answer, Cause};
 
 // Call 11: refused where KEEP_CAPS is locked. No capability is needed.
 pub(crate) fn set_keep_caps(start: Credentials, on: bool) -> Answer
-    ensures { result ≡ setKeepCaps start on }
+    ensures { result ≡ set_keep_caps start on }
 {
     if start.securebits & SECBIT_KEEP_CAPS_LOCKED != 0 {
         return Answer::NotPermitted(Cause::LockedFlagChanged);
@@ -31,7 +31,7 @@ pub(crate) fn set_keep_caps(start: Credentials, on: bool) -> Answer
 
 // Call 12: 1 where KEEP_CAPS is set.
 pub(crate) fn get_keep_caps(start: Credentials) -> Answer
-    ensures { result ≡ getKeepCaps start }
+    ensures { result ≡ get_keep_caps start }
 {
     Answer::Done {
         value: (start.securebits & SECBIT_KEEP_CAPS != 0) as u64,
@@ -41,7 +41,7 @@ pub(crate) fn get_keep_caps(start: Credentials) -> Answer
 
 // Call 13: no-new-privs is set, for good.
 pub(crate) fn set_no_new_privs(start: Credentials) -> Answer
-    ensures { result ≡ setNoNewPrivs start }
+    ensures { result ≡ set_no_new_privs start }
 {
     let mut next = start;
     next.nnp = true;
@@ -53,7 +53,7 @@ pub(crate) fn set_no_new_privs(start: Credentials) -> Answer
 
 // Call 14: 1 where no-new-privs is set.
 pub(crate) fn get_no_new_privs(start: Credentials) -> Answer
-    ensures { result ≡ getNoNewPrivs start }
+    ensures { result ≡ get_no_new_privs start }
 {
     Answer::Done {
         value: start.nnp as u64,

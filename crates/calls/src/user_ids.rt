@@ -1,6 +1,6 @@
 // The ID calls 15 to 18 on user IDs: setuid(2), setreuid(2), setresuid(2) and setfsuid(2), and what follows for the sets.
 ghost use Rattle.std.specs.Prelude.{◌≡◌};
-ghost use Rattle.rules.specs.Ids.{effectiveLeft, effectiveTaken, filesystemLeft, filesystemTaken, filesystemUserIdChanged, rootLeft, setfsuid, setresuid, setreuid, setsAfter, setsAfterFilesystem, setuid, userIdsChanged};
+ghost use Rattle.rules.specs.Ids.{effective_left, effective_taken, filesystem_left, filesystem_taken, filesystem_user_id_changed, root_left, setfsuid, setresuid, setreuid, sets_after, sets_after_filesystem, setuid, user_ids_changed};
 
 use crate::ids;
 use capabilities::header::CAP_SETUID;
@@ -53,7 +53,7 @@ pub(crate) fn setfsuid(start: Credentials, id: u64) -> Answer
 
 // Calls 15 to 17: the new user IDs and the sets after them, or refused.
 fn user_ids_changed(start: Credentials, new: NewIds) -> Answer
-    ensures { result ≡ userIdsChanged start new }
+    ensures { result ≡ user_ids_changed start new }
 {
     let NewIds::Allowed(uids) = new else {
         return Answer::NotPermitted(Cause::IdNotAllowed);
@@ -69,7 +69,7 @@ fn user_ids_changed(start: Credentials, new: NewIds) -> Answer
 
 // Call 18: the new user IDs and the sets after them, or nothing changes.
 fn filesystem_user_id_changed(start: Credentials, new: NewIds) -> Answer
-    ensures { result ≡ filesystemUserIdChanged start new }
+    ensures { result ≡ filesystem_user_id_changed start new }
 {
     let old = start.uids;
     let NewIds::Allowed(uids) = new else {
@@ -89,7 +89,7 @@ fn filesystem_user_id_changed(start: Credentials, new: NewIds) -> Answer
 
 // Calls 15 to 17: what rules 1, 2 and 3 make of the sets, unless NO_SETUID_FIXUP is set.
 fn sets_after(old: Ids, new: Ids, securebits: u64, held: Sets) -> Sets
-    ensures { result ≡ setsAfter old new securebits held }
+    ensures { result ≡ sets_after old new securebits held }
 {
     if securebits & SECBIT_NO_SETUID_FIXUP != 0 {
         return held;
@@ -101,7 +101,7 @@ fn sets_after(old: Ids, new: Ids, securebits: u64, held: Sets) -> Sets
 
 // Rule 1: where one of the three IDs was 0 and none is now, A is cleared, and P and E too unless KEEP_CAPS is set.
 fn root_left(old: Ids, new: Ids, securebits: u64, held: Sets) -> Sets
-    ensures { result ≡ rootLeft old new securebits held }
+    ensures { result ≡ root_left old new securebits held }
 {
     let mut next = held;
     if ids::one_of_three(old, 0) & !ids::one_of_three(new, 0) {
@@ -118,7 +118,7 @@ fn root_left(old: Ids, new: Ids, securebits: u64, held: Sets) -> Sets
 
 // Rule 2: the effective ID from 0 to nonzero clears E.
 fn effective_left(old: Ids, new: Ids, held: Sets) -> Sets
-    ensures { result ≡ effectiveLeft old new held }
+    ensures { result ≡ effective_left old new held }
 {
     let mut next = held;
     if (old.effective == 0) & (new.effective != 0) {
@@ -130,7 +130,7 @@ fn effective_left(old: Ids, new: Ids, held: Sets) -> Sets
 
 // Rule 3: the effective ID from nonzero to 0 makes P the effective set.
 fn effective_taken(old: Ids, new: Ids, held: Sets) -> Sets
-    ensures { result ≡ effectiveTaken old new held }
+    ensures { result ≡ effective_taken old new held }
 {
     let mut next = held;
     if (old.effective != 0) & (new.effective == 0) {
@@ -142,7 +142,7 @@ fn effective_taken(old: Ids, new: Ids, held: Sets) -> Sets
 
 // Call 18: what rule 4 makes of the sets, unless NO_SETUID_FIXUP is set.
 fn sets_after_filesystem(old: Ids, new: Ids, securebits: u64, held: Sets) -> Sets
-    ensures { result ≡ setsAfterFilesystem old new securebits held }
+    ensures { result ≡ sets_after_filesystem old new securebits held }
 {
     if securebits & SECBIT_NO_SETUID_FIXUP != 0 {
         return held;
@@ -153,7 +153,7 @@ fn sets_after_filesystem(old: Ids, new: Ids, securebits: u64, held: Sets) -> Set
 
 // Rule 4: the filesystem ID from 0 to nonzero takes the filesystem set from E.
 fn filesystem_left(old: Ids, new: Ids, held: Sets) -> Sets
-    ensures { result ≡ filesystemLeft old new held }
+    ensures { result ≡ filesystem_left old new held }
 {
     let mut next = held;
     if (old.filesystem == 0) & (new.filesystem != 0) {
@@ -165,7 +165,7 @@ fn filesystem_left(old: Ids, new: Ids, held: Sets) -> Sets
 
 // Rule 4: the filesystem ID from nonzero to 0 gives E the filesystem set's part of P.
 fn filesystem_taken(old: Ids, new: Ids, held: Sets) -> Sets
-    ensures { result ≡ filesystemTaken old new held }
+    ensures { result ≡ filesystem_taken old new held }
 {
     let mut next = held;
     if (old.filesystem != 0) & (new.filesystem == 0) {

@@ -11,8 +11,8 @@ launched : (i b a f g : ℕ) → Within (union (union (inter i f) (inter g b)) a
 launched i b a f g = search inclusions depth 8
 
 -- what is in neither of two sets
-de-morgan : (a b c : ℕ) → minus a (union b c) ≡ inter (minus a b) (minus a c)
-de-morgan a b c = solve (a ∷ b ∷ c ∷ []) (var 0 ∖ (var 1 ∪ var 2)) ((var 0 ∖ var 1) ∩ (var 0 ∖ var 2)) refl
+de_morgan : (a b c : ℕ) → minus a (union b c) ≡ inter (minus a b) (minus a c)
+de_morgan a b c = solve (a ∷ b ∷ c ∷ []) (var 0 ∖ (var 1 ∪ var 2)) ((var 0 ∖ var 1) ∩ (var 0 ∖ var 2)) refl
 
 -- what is left of a set within another is left of that other
 left_over : (a b c : ℕ) → Within a b → Within (minus a c) (minus b c)

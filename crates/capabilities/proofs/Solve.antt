@@ -5,7 +5,7 @@ use mathlib.Core.Bool.{Bool, true, false, not, ◌&&◌, ◌||◌, beq, false≢
 use mathlib.Core.List.{List, [], ◌∷◌}
 use Prim.Native.Nat.{ℕ, zero, suc}
 use Rattle.capabilities.specs.Sets.{has, union, inter, minus, Within}
-use Rattle.capabilities.proofs.Membership.{has-union, has-inter, has-minus, has-none, ext}
+use Rattle.capabilities.proofs.Membership.{has_union, has_inter, has_minus, has_none, ext}
 use Rattle.capabilities.proofs.Inclusion.{in_is, and_l, and_r, and_i}
 
 -- ---- expressions
@@ -47,16 +47,16 @@ members c (x ∷ xs) = has x c ∷ members c xs
 
 member_is : (c : ℕ) (ρ : List ℕ) (n : ℕ) → has (at 0 ρ n) c ≡ at false (members c ρ) n
 unfolding members
-member_is c [] n = has-none c
+member_is c [] n = has_none c
 member_is c (x ∷ xs) zero = refl
 member_is c (x ∷ xs) (suc n) = member_is c xs n
 
-truth-is : (c : ℕ) (ρ : List ℕ) (e : Ex) → has (sets ρ e) c ≡ truth (members c ρ) e
-truth-is c ρ (var n) = member_is c ρ n
-truth-is c ρ none = has-none c
-truth-is c ρ (e ∪ f) = has-union (sets ρ e) (sets ρ f) c ∙ ap₂ ◌||◌ (truth-is c ρ e) (truth-is c ρ f)
-truth-is c ρ (e ∩ f) = has-inter (sets ρ e) (sets ρ f) c ∙ ap₂ ◌&&◌ (truth-is c ρ e) (truth-is c ρ f)
-truth-is c ρ (e ∖ f) = has-minus (sets ρ e) (sets ρ f) c ∙ ap₂ (λ (x y : Bool). x && not y) (truth-is c ρ e) (truth-is c ρ f)
+truth_is : (c : ℕ) (ρ : List ℕ) (e : Ex) → has (sets ρ e) c ≡ truth (members c ρ) e
+truth_is c ρ (var n) = member_is c ρ n
+truth_is c ρ none = has_none c
+truth_is c ρ (e ∪ f) = has_union (sets ρ e) (sets ρ f) c ∙ ap₂ ◌||◌ (truth_is c ρ e) (truth_is c ρ f)
+truth_is c ρ (e ∩ f) = has_inter (sets ρ e) (sets ρ f) c ∙ ap₂ ◌&&◌ (truth_is c ρ e) (truth_is c ρ f)
+truth_is c ρ (e ∖ f) = has_minus (sets ρ e) (sets ρ f) c ∙ ap₂ (λ (x y : Bool). x && not y) (truth_is c ρ e) (truth_is c ρ f)
 
 -- ---- tables
 
@@ -78,18 +78,18 @@ at_row c (x ∷ xs) p h =
 
 -- ---- equations
 
-beq-eq : (x y : Bool) → beq x y ≡ true → x ≡ y
-beq-eq true true h = refl
-beq-eq true false h = sym h
-beq-eq false true h = h
-beq-eq false false h = refl
+beq_eq : (x y : Bool) → beq x y ≡ true → x ≡ y
+beq_eq true true h = refl
+beq_eq true false h = sym h
+beq_eq false true h = h
+beq_eq false false h = refl
 
 -- `solve (a ∷ b ∷ []) e f refl` proves that the two sets are equal
 pub solve : (ρ : List ℕ) (e f : Ex) → rows ρ (λ l. beq (truth l e) (truth l f)) ≡ true → sets ρ e ≡ sets ρ f
 solve ρ e f h =
     ext (sets ρ e) (sets ρ f)
-    (λ c. truth-is c ρ e ∙ beq-eq (truth (members c ρ) e) (truth (members c ρ) f) (at_row c ρ (λ l. beq (truth l e) (truth l f)) h)
-    ∙ sym (truth-is c ρ f))
+    (λ c. truth_is c ρ e ∙ beq_eq (truth (members c ρ) e) (truth (members c ρ) f) (at_row c ρ (λ l. beq (truth l e) (truth l f)) h)
+    ∙ sym (truth_is c ρ f))
 
 -- ---- inclusions that follow from others
 
@@ -115,23 +115,23 @@ imp : (x y : Bool) → not x || y ≡ true → x ≡ true → y ≡ true
 imp true y h p = h
 imp false y h p = absurd (false≢true p)
 
-imp-i : (x y : Bool) → (x ≡ true → y ≡ true) → not x || y ≡ true
-imp-i true y h = h refl
-imp-i false y h = refl
+imp_i : (x y : Bool) → (x ≡ true → y ≡ true) → not x || y ≡ true
+imp_i true y h = h refl
+imp_i false y h = refl
 
 test_of : (c : ℕ) (ρ : List ℕ) (x : Claim) → holds ρ x → test (members c ρ) x ≡ true
 test_of c ρ (e ⊑ f) h =
-    imp-i (truth (members c ρ) e) (truth (members c ρ) f) (λ m. sym (truth-is c ρ f) ∙ (h.all! c (in_is (truth-is c ρ e ∙ m))).is!)
+    imp_i (truth (members c ρ) e) (truth (members c ρ) f) (λ m. sym (truth_is c ρ f) ∙ (h.all! c (in_is (truth_is c ρ e ∙ m))).is!)
 
-tests-of : (c : ℕ) (ρ : List ℕ) (xs : List Claim) → Given ρ xs → tests (members c ρ) xs ≡ true
-tests-of c ρ [] g = refl
-tests-of c ρ (x ∷ xs) g = and_i (test (members c ρ) x) (tests (members c ρ) xs) (test_of c ρ x g.fact) (tests-of c ρ xs g.more)
+tests_of : (c : ℕ) (ρ : List ℕ) (xs : List Claim) → Given ρ xs → tests (members c ρ) xs ≡ true
+tests_of c ρ [] g = refl
+tests_of c ρ (x ∷ xs) g = and_i (test (members c ρ) x) (tests (members c ρ) xs) (test_of c ρ x g.fact) (tests_of c ρ xs g.more)
 
 -- `follows ρ xs e f refl g` proves that e is within f from the inclusions xs, which g holds
 pub follows : (ρ : List ℕ) (xs : List Claim) (e f : Ex) → rows ρ (λ l. not (tests l xs) || test l (e ⊑ f)) ≡ true → Given ρ xs → Within (sets ρ e) (sets ρ f)
 follows ρ xs e f h g = record {
-  all! = λ c m. in_is (truth-is c ρ f
+  all! = λ c m. in_is (truth_is c ρ f
       ∙ imp (truth (members c ρ) e) (truth (members c ρ) f)
-      (imp (tests (members c ρ) xs) (test (members c ρ) (e ⊑ f)) (at_row c ρ (λ l. not (tests l xs) || test l (e ⊑ f)) h) (tests-of c ρ xs g))
-      (sym (truth-is c ρ e) ∙ m.is!));
+      (imp (tests (members c ρ) xs) (test (members c ρ) (e ⊑ f)) (at_row c ρ (λ l. not (tests l xs) || test l (e ⊑ f)) h) (tests_of c ρ xs g))
+      (sym (truth_is c ρ e) ∙ m.is!));
 }

@@ -1,171 +1,171 @@
 -- The capabilities' numbers by the names of linux/capability.h ("What a thread carries"). Assumes nothing.
 use Rattle.std.specs.Prelude.{ℕ, List, [], ◌∷◌}
 
-abbrev pub CAP-CHOWN : ℕ
-CAP-CHOWN = 0
+abbrev pub CAP_CHOWN : ℕ
+CAP_CHOWN = 0
 
-abbrev pub CAP-DAC-OVERRIDE : ℕ
-CAP-DAC-OVERRIDE = 1
+abbrev pub CAP_DAC_OVERRIDE : ℕ
+CAP_DAC_OVERRIDE = 1
 
-abbrev pub CAP-DAC-READ-SEARCH : ℕ
-CAP-DAC-READ-SEARCH = 2
+abbrev pub CAP_DAC_READ_SEARCH : ℕ
+CAP_DAC_READ_SEARCH = 2
 
-abbrev pub CAP-FOWNER : ℕ
-CAP-FOWNER = 3
+abbrev pub CAP_FOWNER : ℕ
+CAP_FOWNER = 3
 
-abbrev pub CAP-FSETID : ℕ
-CAP-FSETID = 4
+abbrev pub CAP_FSETID : ℕ
+CAP_FSETID = 4
 
-abbrev pub CAP-KILL : ℕ
-CAP-KILL = 5
+abbrev pub CAP_KILL : ℕ
+CAP_KILL = 5
 
-abbrev pub CAP-SETGID : ℕ
-CAP-SETGID = 6
+abbrev pub CAP_SETGID : ℕ
+CAP_SETGID = 6
 
-abbrev pub CAP-SETUID : ℕ
-CAP-SETUID = 7
+abbrev pub CAP_SETUID : ℕ
+CAP_SETUID = 7
 
-abbrev pub CAP-SETPCAP : ℕ
-CAP-SETPCAP = 8
+abbrev pub CAP_SETPCAP : ℕ
+CAP_SETPCAP = 8
 
-abbrev pub CAP-LINUX-IMMUTABLE : ℕ
-CAP-LINUX-IMMUTABLE = 9
+abbrev pub CAP_LINUX_IMMUTABLE : ℕ
+CAP_LINUX_IMMUTABLE = 9
 
-abbrev pub CAP-NET-BIND-SERVICE : ℕ
-CAP-NET-BIND-SERVICE = 10
+abbrev pub CAP_NET_BIND_SERVICE : ℕ
+CAP_NET_BIND_SERVICE = 10
 
-abbrev pub CAP-NET-BROADCAST : ℕ
-CAP-NET-BROADCAST = 11
+abbrev pub CAP_NET_BROADCAST : ℕ
+CAP_NET_BROADCAST = 11
 
-abbrev pub CAP-NET-ADMIN : ℕ
-CAP-NET-ADMIN = 12
+abbrev pub CAP_NET_ADMIN : ℕ
+CAP_NET_ADMIN = 12
 
-abbrev pub CAP-NET-RAW : ℕ
-CAP-NET-RAW = 13
+abbrev pub CAP_NET_RAW : ℕ
+CAP_NET_RAW = 13
 
-abbrev pub CAP-IPC-LOCK : ℕ
-CAP-IPC-LOCK = 14
+abbrev pub CAP_IPC_LOCK : ℕ
+CAP_IPC_LOCK = 14
 
-abbrev pub CAP-IPC-OWNER : ℕ
-CAP-IPC-OWNER = 15
+abbrev pub CAP_IPC_OWNER : ℕ
+CAP_IPC_OWNER = 15
 
-abbrev pub CAP-SYS-MODULE : ℕ
-CAP-SYS-MODULE = 16
+abbrev pub CAP_SYS_MODULE : ℕ
+CAP_SYS_MODULE = 16
 
-abbrev pub CAP-SYS-RAWIO : ℕ
-CAP-SYS-RAWIO = 17
+abbrev pub CAP_SYS_RAWIO : ℕ
+CAP_SYS_RAWIO = 17
 
-abbrev pub CAP-SYS-CHROOT : ℕ
-CAP-SYS-CHROOT = 18
+abbrev pub CAP_SYS_CHROOT : ℕ
+CAP_SYS_CHROOT = 18
 
-abbrev pub CAP-SYS-PTRACE : ℕ
-CAP-SYS-PTRACE = 19
+abbrev pub CAP_SYS_PTRACE : ℕ
+CAP_SYS_PTRACE = 19
 
-abbrev pub CAP-SYS-PACCT : ℕ
-CAP-SYS-PACCT = 20
+abbrev pub CAP_SYS_PACCT : ℕ
+CAP_SYS_PACCT = 20
 
-abbrev pub CAP-SYS-ADMIN : ℕ
-CAP-SYS-ADMIN = 21
+abbrev pub CAP_SYS_ADMIN : ℕ
+CAP_SYS_ADMIN = 21
 
-abbrev pub CAP-SYS-BOOT : ℕ
-CAP-SYS-BOOT = 22
+abbrev pub CAP_SYS_BOOT : ℕ
+CAP_SYS_BOOT = 22
 
-abbrev pub CAP-SYS-NICE : ℕ
-CAP-SYS-NICE = 23
+abbrev pub CAP_SYS_NICE : ℕ
+CAP_SYS_NICE = 23
 
-abbrev pub CAP-SYS-RESOURCE : ℕ
-CAP-SYS-RESOURCE = 24
+abbrev pub CAP_SYS_RESOURCE : ℕ
+CAP_SYS_RESOURCE = 24
 
-abbrev pub CAP-SYS-TIME : ℕ
-CAP-SYS-TIME = 25
+abbrev pub CAP_SYS_TIME : ℕ
+CAP_SYS_TIME = 25
 
-abbrev pub CAP-SYS-TTY-CONFIG : ℕ
-CAP-SYS-TTY-CONFIG = 26
+abbrev pub CAP_SYS_TTY_CONFIG : ℕ
+CAP_SYS_TTY_CONFIG = 26
 
-abbrev pub CAP-MKNOD : ℕ
-CAP-MKNOD = 27
+abbrev pub CAP_MKNOD : ℕ
+CAP_MKNOD = 27
 
-abbrev pub CAP-LEASE : ℕ
-CAP-LEASE = 28
+abbrev pub CAP_LEASE : ℕ
+CAP_LEASE = 28
 
-abbrev pub CAP-AUDIT-WRITE : ℕ
-CAP-AUDIT-WRITE = 29
+abbrev pub CAP_AUDIT_WRITE : ℕ
+CAP_AUDIT_WRITE = 29
 
-abbrev pub CAP-AUDIT-CONTROL : ℕ
-CAP-AUDIT-CONTROL = 30
+abbrev pub CAP_AUDIT_CONTROL : ℕ
+CAP_AUDIT_CONTROL = 30
 
-abbrev pub CAP-SETFCAP : ℕ
-CAP-SETFCAP = 31
+abbrev pub CAP_SETFCAP : ℕ
+CAP_SETFCAP = 31
 
-abbrev pub CAP-MAC-OVERRIDE : ℕ
-CAP-MAC-OVERRIDE = 32
+abbrev pub CAP_MAC_OVERRIDE : ℕ
+CAP_MAC_OVERRIDE = 32
 
-abbrev pub CAP-MAC-ADMIN : ℕ
-CAP-MAC-ADMIN = 33
+abbrev pub CAP_MAC_ADMIN : ℕ
+CAP_MAC_ADMIN = 33
 
-abbrev pub CAP-SYSLOG : ℕ
-CAP-SYSLOG = 34
+abbrev pub CAP_SYSLOG : ℕ
+CAP_SYSLOG = 34
 
-abbrev pub CAP-WAKE-ALARM : ℕ
-CAP-WAKE-ALARM = 35
+abbrev pub CAP_WAKE_ALARM : ℕ
+CAP_WAKE_ALARM = 35
 
-abbrev pub CAP-BLOCK-SUSPEND : ℕ
-CAP-BLOCK-SUSPEND = 36
+abbrev pub CAP_BLOCK_SUSPEND : ℕ
+CAP_BLOCK_SUSPEND = 36
 
-abbrev pub CAP-AUDIT-READ : ℕ
-CAP-AUDIT-READ = 37
+abbrev pub CAP_AUDIT_READ : ℕ
+CAP_AUDIT_READ = 37
 
-abbrev pub CAP-PERFMON : ℕ
-CAP-PERFMON = 38
+abbrev pub CAP_PERFMON : ℕ
+CAP_PERFMON = 38
 
-abbrev pub CAP-BPF : ℕ
-CAP-BPF = 39
+abbrev pub CAP_BPF : ℕ
+CAP_BPF = 39
 
-abbrev pub CAP-CHECKPOINT-RESTORE : ℕ
-CAP-CHECKPOINT-RESTORE = 40
+abbrev pub CAP_CHECKPOINT_RESTORE : ℕ
+CAP_CHECKPOINT_RESTORE = 40
 
 -- all of them, in the header's order
 unfoldable pub header : List ℕ
 header =
-    CAP-CHOWN ∷
-    CAP-DAC-OVERRIDE ∷
-    CAP-DAC-READ-SEARCH ∷
-    CAP-FOWNER ∷
-    CAP-FSETID ∷
-    CAP-KILL ∷
-    CAP-SETGID ∷
-    CAP-SETUID ∷
-    CAP-SETPCAP ∷
-    CAP-LINUX-IMMUTABLE ∷
-    CAP-NET-BIND-SERVICE ∷
-    CAP-NET-BROADCAST ∷
-    CAP-NET-ADMIN ∷
-    CAP-NET-RAW ∷
-    CAP-IPC-LOCK ∷
-    CAP-IPC-OWNER ∷
-    CAP-SYS-MODULE ∷
-    CAP-SYS-RAWIO ∷
-    CAP-SYS-CHROOT ∷
-    CAP-SYS-PTRACE ∷
-    CAP-SYS-PACCT ∷
-    CAP-SYS-ADMIN ∷
-    CAP-SYS-BOOT ∷
-    CAP-SYS-NICE ∷
-    CAP-SYS-RESOURCE ∷
-    CAP-SYS-TIME ∷
-    CAP-SYS-TTY-CONFIG ∷
-    CAP-MKNOD ∷
-    CAP-LEASE ∷
-    CAP-AUDIT-WRITE ∷
-    CAP-AUDIT-CONTROL ∷
-    CAP-SETFCAP ∷
-    CAP-MAC-OVERRIDE ∷
-    CAP-MAC-ADMIN ∷
-    CAP-SYSLOG ∷
-    CAP-WAKE-ALARM ∷
-    CAP-BLOCK-SUSPEND ∷
-    CAP-AUDIT-READ ∷
-    CAP-PERFMON ∷
-    CAP-BPF ∷
-    CAP-CHECKPOINT-RESTORE ∷
+    CAP_CHOWN ∷
+    CAP_DAC_OVERRIDE ∷
+    CAP_DAC_READ_SEARCH ∷
+    CAP_FOWNER ∷
+    CAP_FSETID ∷
+    CAP_KILL ∷
+    CAP_SETGID ∷
+    CAP_SETUID ∷
+    CAP_SETPCAP ∷
+    CAP_LINUX_IMMUTABLE ∷
+    CAP_NET_BIND_SERVICE ∷
+    CAP_NET_BROADCAST ∷
+    CAP_NET_ADMIN ∷
+    CAP_NET_RAW ∷
+    CAP_IPC_LOCK ∷
+    CAP_IPC_OWNER ∷
+    CAP_SYS_MODULE ∷
+    CAP_SYS_RAWIO ∷
+    CAP_SYS_CHROOT ∷
+    CAP_SYS_PTRACE ∷
+    CAP_SYS_PACCT ∷
+    CAP_SYS_ADMIN ∷
+    CAP_SYS_BOOT ∷
+    CAP_SYS_NICE ∷
+    CAP_SYS_RESOURCE ∷
+    CAP_SYS_TIME ∷
+    CAP_SYS_TTY_CONFIG ∷
+    CAP_MKNOD ∷
+    CAP_LEASE ∷
+    CAP_AUDIT_WRITE ∷
+    CAP_AUDIT_CONTROL ∷
+    CAP_SETFCAP ∷
+    CAP_MAC_OVERRIDE ∷
+    CAP_MAC_ADMIN ∷
+    CAP_SYSLOG ∷
+    CAP_WAKE_ALARM ∷
+    CAP_BLOCK_SUSPEND ∷
+    CAP_AUDIT_READ ∷
+    CAP_PERFMON ∷
+    CAP_BPF ∷
+    CAP_CHECKPOINT_RESTORE ∷
     []

@@ -14,18 +14,18 @@ use denote.Enum.Declared.{tag_of}
 use Rattle.format.specs.contracts.SheetReading.{the_type}
 use Rattle.format.specs.declared.SheetReading.{SheetReading}
 use Rattle.format.specs.declared.SheetReading.TheVariants.{Sheet, Malformed, Invalid}
-use Rattle.format.specs.Sheet.{idKinds, uidKinds, gidKinds, setKinds, flagKinds, sheetKinds, sheetCode, sheetLine}
-use Rattle.capi.specs.Interface.{joined, givenNumber, givenIn, sheetNumber, sheetGiven, areValues}
+use Rattle.format.specs.Sheet.{id_kinds, uid_kinds, gid_kinds, set_kinds, flag_kinds, sheet_kinds, sheet_code, sheet_line}
+use Rattle.capi.specs.Interface.{joined, given_number, given_in, sheet_number, sheet_given, are_values}
 
 module _ (vs old : List ℕ) where
   -- there is room
-  pub given : length vs ≤ length old → (joined 0 (length vs) ≡ givenNumber vs (length old)) × (vs ++ drop (length vs) old ≡ givenIn vs old)
-  unfolding givenNumber givenIn
+  pub given : length vs ≤ length old → (joined 0 (length vs) ≡ given_number vs (length old)) × (vs ++ drop (length vs) old ≡ given_in vs old)
+  unfolding given_number given_in
   given h = rw (le-leb (length vs) (length old) h) (refl, refl)
 
   -- there is none
-  pub no_room : length old < length vs → (joined 28 0 ≡ givenNumber vs (length old)) × (old ≡ givenIn vs old)
-  unfolding givenNumber givenIn
+  pub no_room : length old < length vs → (joined 28 0 ≡ given_number vs (length old)) × (old ≡ given_in vs old)
+  unfolding given_number given_in
   no_room h = rw (lt-leb (length vs) (length old) h) (refl, refl)
 
   -- numbers stored one after the other
@@ -37,13 +37,13 @@ and_first true y h = refl
 and_first false y h = absurd (false≢true h)
 
 -- values of credentials are fifteen
-pub fifteen : (vs : List ℕ) → areValues vs ≡ true → length vs ≡ 15
-unfolding areValues sheetKinds idKinds uidKinds gidKinds setKinds flagKinds
+pub fifteen : (vs : List ℕ) → are_values vs ≡ true → length vs ≡ 15
+unfolding are_values sheet_kinds id_kinds uid_kinds gid_kinds set_kinds flag_kinds
 fifteen vs h = eqb-true (length vs) 15 (and_first (eqb (length vs) 15) (leb (get_or vs 14 0) 1) h)
 
 -- a sheet that is not read
-pub sheet-refused : (r : SheetReading) (old : List ℕ) → OneOf (1 ∷ 2 ∷ []) (tag_of the_type r)
-    → (joined (sheetCode r) (sheetLine r) ≡ sheetNumber r (length old)) × (old ≡ sheetGiven r old)
-sheet-refused (Sheet c) old h = absurd (miss (1 ∷ 2 ∷ []) 0 tt h)
-sheet-refused (Malformed line) old h = (refl, refl)
-sheet-refused Invalid old h = (refl, refl)
+pub sheet_refused : (r : SheetReading) (old : List ℕ) → OneOf (1 ∷ 2 ∷ []) (tag_of the_type r)
+    → (joined (sheet_code r) (sheet_line r) ≡ sheet_number r (length old)) × (old ≡ sheet_given r old)
+sheet_refused (Sheet c) old h = absurd (miss (1 ∷ 2 ∷ []) 0 tt h)
+sheet_refused (Malformed line) old h = (refl, refl)
+sheet_refused Invalid old h = (refl, refl)

@@ -5,13 +5,13 @@
 // a place, a length or a count. What a reader gives are 64-bit numbers, in a slice that the caller lends. The crate assumes nothing.
 ghost use Rattle.std.specs.Prelude.{◌≡◌, ◌++◌, ◌≤◌, length, drop};
 ghost use Rattle.attribute.specs.Reader.{reading};
-ghost use Rattle.format.specs.Sheet.{credentialsOf, readSheet, sheetValues};
-ghost use Rattle.format.specs.Report.{verdict, outcome, buffer, cNumber};
-ghost use Rattle.names.specs.Reading.{readText};
-ghost use Rattle.names.specs.Writing.{namesAnswer, namesBuffer};
-ghost use Rattle.status.specs.Reading.{readStatus};
+ghost use Rattle.format.specs.Sheet.{credentials_of, read_sheet, sheet_values};
+ghost use Rattle.format.specs.Report.{verdict, outcome, buffer, c_number};
+ghost use Rattle.names.specs.Reading.{read_text};
+ghost use Rattle.names.specs.Writing.{names_answer, names_buffer};
+ghost use Rattle.status.specs.Reading.{read_status};
 ghost use Rattle.status.specs.declared.Reading.TheVariants.{Shows};
-ghost use Rattle.capi.specs.Interface.{areValues, bitBuffer, bitWritten, fileGiven, fileNumber, fileValues, givenIn, givenNumber, joined, lowPlace, namedSets, namedValues, namesGiven, namesNumber, sheetGiven, sheetNumber, statusList, statusNumber, valuesBuffer, valuesWritten, writtenNumber};
+ghost use Rattle.capi.specs.Interface.{are_values, bit_buffer, bit_written, file_given, file_number, file_values, given_in, given_number, joined, low_place, named_sets, named_values, names_given, names_number, sheet_given, sheet_number, status_list, status_number, values_buffer, values_written, written_number};
 
 use attribute::{FileCapabilities, Reading};
 use codes::{DONE, INVALID_ARGUMENT, INVALID_CREDENTIALS, MALFORMED, NO_ROOM};
@@ -36,7 +36,7 @@ const LARGEST_PLACE: usize = 0xffff_ffff;
 // (0). A plan that is refused leaves the buffer as it was.
 #[unsafe(no_mangle)]
 pub extern "C" fn urrezkalu_run_plan(plan: &[u8], report: &mut [u8]) -> u64
-    ensures { (result ≡ cNumber (outcome (verdict plan.now) (length report.old))) × (report.new ≡ buffer (verdict plan.now) report.old) }
+    ensures { (result ≡ c_number (outcome (verdict plan.now) (length report.old))) × (report.new ≡ buffer (verdict plan.now) report.old) }
 {
     let ran = plan::run_plan(plan, report);
     let code = ran.code as u64;
@@ -49,7 +49,7 @@ pub extern "C" fn urrezkalu_run_plan(plan: &[u8], report: &mut [u8]) -> u64
 // fifteen, and in each case values stays; else 15, and the first fifteen of values are those of the sheet's lines, in their order.
 #[unsafe(no_mangle)]
 pub extern "C" fn urrezkalu_read_sheet(text: &[u8], values: &mut [u64]) -> u64
-    ensures { (result ≡ sheetNumber (readSheet text.now) (length values.old)) × (values.new ≡ sheetGiven (readSheet text.now) values.old) }
+    ensures { (result ≡ sheet_number (read_sheet text.now) (length values.old)) × (values.new ≡ sheet_given (read_sheet text.now) values.old) }
 {
     let answer = sheet_reader::read_sheet(text);
     let SheetReading::Sheet(held) = answer else {
@@ -69,7 +69,7 @@ pub extern "C" fn urrezkalu_read_sheet(text: &[u8], values: &mut [u64]) -> u64
 // nor 1, or the credentials are not valid, then 28 where the sheet is longer than the buffer, and in each case nothing is written; else the sheet's length.
 #[unsafe(no_mangle)]
 pub extern "C" fn urrezkalu_write_sheet(values: &[u64], sheet: &mut [u8]) -> u64
-    ensures { (result ≡ writtenNumber (valuesWritten values.now (length sheet.old))) × (sheet.new ≡ valuesBuffer values.now sheet.old) }
+    ensures { (result ≡ written_number (values_written values.now (length sheet.old))) × (sheet.new ≡ values_buffer values.now sheet.old) }
 {
     if are_values(values) {
         let written = sheet_writer::write_sheet(credentials_of(values), sheet);
@@ -82,7 +82,7 @@ pub extern "C" fn urrezkalu_write_sheet(values: &[u64], sheet: &mut [u8]) -> u64
 // first four of values are whether an attribute is attached, its permitted set, its inheritable set and its effective bit.
 #[unsafe(no_mangle)]
 pub extern "C" fn urrezkalu_read_attribute(attribute: &[u8], values: &mut [u64]) -> u64
-    ensures { (result ≡ fileNumber (reading attribute.now) (length values.old)) × (values.new ≡ fileGiven (reading attribute.now) values.old) }
+    ensures { (result ≡ file_number (reading attribute.now) (length values.old)) × (values.new ≡ file_given (reading attribute.now) values.old) }
 {
     let answer = attribute::read(attribute);
     let Reading::File(file) = answer else {
@@ -104,7 +104,7 @@ pub extern "C" fn urrezkalu_write_attribute(
     effective: u64,
     attribute: &mut [u8],
 ) -> u64
-    ensures { (result ≡ writtenNumber (bitWritten permitted inheritable effective (length attribute.old))) × (attribute.new ≡ bitBuffer permitted inheritable effective attribute.old) }
+    ensures { (result ≡ written_number (bit_written permitted inheritable effective (length attribute.old))) × (attribute.new ≡ bit_buffer permitted inheritable effective attribute.old) }
 {
     if effective <= 1 {
         let written = attribute::write(permitted, inheritable, effective == 1, attribute);
@@ -117,7 +117,7 @@ pub extern "C" fn urrezkalu_write_attribute(
 // 3, and the first three of values are the permitted, the inheritable and the effective set. A place above 4294967295 is given as 4294967295.
 #[unsafe(no_mangle)]
 pub extern "C" fn urrezkalu_read_names(text: &[u8], values: &mut [u64]) -> u64
-    ensures { (result ≡ namesNumber (readText text.now) (length values.old)) × (values.new ≡ namesGiven (readText text.now) values.old) }
+    ensures { (result ≡ names_number (read_text text.now) (length values.old)) × (values.new ≡ names_given (read_text text.now) values.old) }
 {
     match names_reader::read_names(text) {
         names::Reading::Malformed(place) => joined(MALFORMED, low_place(place)),
@@ -134,7 +134,7 @@ pub extern "C" fn urrezkalu_write_names(
     effective: u64,
     text: &mut [u8],
 ) -> u64
-    ensures { (result ≡ writtenNumber (namesAnswer (namedSets permitted inheritable effective) (length text.old))) × (text.new ≡ namesBuffer (namedSets permitted inheritable effective) text.old) }
+    ensures { (result ≡ written_number (names_answer (named_sets permitted inheritable effective) (length text.old))) × (text.new ≡ names_buffer (named_sets permitted inheritable effective) text.old) }
 {
     let held = names::Sets {
         permitted,
@@ -150,7 +150,7 @@ pub extern "C" fn urrezkalu_write_names(
 // each case nothing is written; else the list's length. A line above 4294967295 is given as 4294967295.
 #[unsafe(no_mangle)]
 pub extern "C" fn urrezkalu_compare_status(status: &[u8], sheet: &[u8], list: &mut [u8]) -> u64
-    ensures { (result ≡ statusNumber (readStatus status.now) (readSheet sheet.now) (length list.old)) × (list.new ≡ statusList (readStatus status.now) (readSheet sheet.now) list.old) }
+    ensures { (result ≡ status_number (read_status status.now) (read_sheet sheet.now) (length list.old)) × (list.new ≡ status_list (read_status status.now) (read_sheet sheet.now) list.old) }
 {
     match status_reader::read_status(status) {
         status::Reading::Malformed(line) => joined(MALFORMED, low_place(line)),
@@ -160,7 +160,7 @@ pub extern "C" fn urrezkalu_compare_status(status: &[u8], sheet: &[u8], list: &m
 
 // What was found in a status text, laid beside the credentials of a sheet.
 fn beside_sheet(found: Status, sheet: &[u8], list: &mut [u8]) -> u64
-    ensures { (result ≡ statusNumber (Shows found) (readSheet sheet.now) (length list.old)) × (list.new ≡ statusList (Shows found) (readSheet sheet.now) list.old) }
+    ensures { (result ≡ status_number (Shows found) (read_sheet sheet.now) (length list.old)) × (list.new ≡ status_list (Shows found) (read_sheet sheet.now) list.old) }
 {
     match sheet_reader::read_sheet(sheet) {
         SheetReading::Malformed(_) => joined(MALFORMED, 0),
@@ -181,7 +181,7 @@ fn joined(code: u8, low: u32) -> u64
 
 // Whether numbers are the values of credentials, valid or not.
 fn are_values(values: &[u64]) -> bool
-    ensures { result ≡ areValues values.now }
+    ensures { result ≡ are_values values.now }
 {
     if values.len() == SHEET_VALUES {
         return values[14] <= 1;
@@ -192,7 +192,7 @@ fn are_values(values: &[u64]) -> bool
 // The credentials of a sheet's values.
 fn credentials_of(values: &[u64]) -> Credentials
     requires { length values.now ≡ 15 }
-    ensures { result ≡ credentialsOf values.now }
+    ensures { result ≡ credentials_of values.now }
 {
     let uids = Ids {
         real: values[0],
@@ -225,7 +225,7 @@ fn credentials_of(values: &[u64]) -> Credentials
 // The values of a sheet's lines, at the front of values.
 fn put_credentials(values: &mut [u64], held: Credentials)
     requires { 15 ≤ length values.old }
-    ensures { values.new ≡ sheetValues held ++ drop 15 values.old }
+    ensures { values.new ≡ sheet_values held ++ drop 15 values.old }
 {
     values[0] = held.uids.real;
     values[1] = held.uids.effective;
@@ -247,7 +247,7 @@ fn put_credentials(values: &mut [u64], held: Credentials)
 // A file's capabilities as numbers, at the front of values.
 fn put_file(values: &mut [u64], file: FileCapabilities)
     requires { 4 ≤ length values.old }
-    ensures { values.new ≡ fileValues file ++ drop 4 values.old }
+    ensures { values.new ≡ file_values file ++ drop 4 values.old }
 {
     values[0] = file.attached as u64;
     values[1] = file.permitted;
@@ -257,7 +257,7 @@ fn put_file(values: &mut [u64], file: FileCapabilities)
 
 // Three sets as numbers, at the front of values: 28 where there is no room for them, else how many they are.
 fn give_names(values: &mut [u64], held: names::Sets) -> u64
-    ensures { (result ≡ givenNumber (namedValues held) (length values.old)) × (values.new ≡ givenIn (namedValues held) values.old) }
+    ensures { (result ≡ given_number (named_values held) (length values.old)) × (values.new ≡ given_in (named_values held) values.old) }
 {
     if values.len() < NAMED_VALUES {
         return joined(NO_ROOM, 0);
@@ -270,7 +270,7 @@ fn give_names(values: &mut [u64], held: names::Sets) -> u64
 
 // A place or a line as the number has it: the largest that it has room for, where it has none for the place.
 fn low_place(place: usize) -> u32
-    ensures { result ≡ lowPlace place }
+    ensures { result ≡ low_place place }
 {
     if place < LARGEST_PLACE {
         return place as u32;

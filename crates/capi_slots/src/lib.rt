@@ -3,8 +3,8 @@
 // It is a crate of its own so that it is compiled by itself: in one object with the plan runner the calls would be a function of two callers, which is not
 // inlined, and a plan would take a third longer. The crate assumes nothing.
 ghost use Rattle.std.specs.Prelude.{◌≡◌, length};
-ghost use Rattle.format.specs.Report.{outcome, buffer, cNumber};
-ghost use Rattle.slot_format.specs.SlotReport.{slotVerdict};
+ghost use Rattle.format.specs.Report.{outcome, buffer, c_number};
+ghost use Rattle.slot_format.specs.SlotReport.{slot_verdict};
 
 // The place of the code in the number.
 const CODE: u64 = 0x1_0000_0000;
@@ -13,7 +13,7 @@ const CODE: u64 = 0x1_0000_0000;
 // (0). A slot plan that is refused leaves the buffer as it was.
 #[unsafe(no_mangle)]
 pub extern "C" fn urrezkalu_run_slot_plan(plan: &[u8], report: &mut [u8]) -> u64
-    ensures { (result ≡ cNumber (outcome (slotVerdict plan.now) (length report.old))) × (report.new ≡ buffer (slotVerdict plan.now) report.old) }
+    ensures { (result ≡ c_number (outcome (slot_verdict plan.now) (length report.old))) × (report.new ≡ buffer (slot_verdict plan.now) report.old) }
 {
     let ran = plan::run_slot_plan(plan, report);
     let code = ran.code as u64;

@@ -4,33 +4,33 @@ use mathlib.Core.Path.{◌≡◌, refl}
 use mathlib.Core.Bool.{Bool, true, false, ◌&&◌, false≢true}
 use borrow.Author.Tests.{leb-true, le-leb}
 use Rattle.capabilities.specs.Sets.{full, within, Within}
-use Rattle.capabilities.proofs.Inclusion.{and_l, and_r, and_i, within-sub, sub_within}
-use Rattle.credentials.specs.Validity.{ambientHeld, effectivePermitted, idInRange, idsInRange, noBitAbove40, securebitsInRange, valid}
+use Rattle.capabilities.proofs.Inclusion.{and_l, and_r, and_i, within_sub, sub_within}
+use Rattle.credentials.specs.Validity.{ambient_held, effective_permitted, id_in_range, ids_in_range, no_bit_above40, securebits_in_range, valid}
 use Rattle.credentials.specs.declared.Ids.{Ids}
 use Rattle.credentials.specs.declared.Sets.{Sets}
 use Rattle.credentials.specs.declared.Credentials.{Credentials}
 
 pub record ValidSets (s : Sets) : Type 0 where
-  pub effective-permitted : Within s.effective s.permitted
-  pub ambient-permitted : Within s.ambient s.permitted
-  pub ambient-inheritable : Within s.ambient s.inheritable
-  pub permitted-full : Within s.permitted full
-  pub inheritable-full : Within s.inheritable full
-  pub effective-full : Within s.effective full
-  pub bounding-full : Within s.bounding full
-  pub ambient-full : Within s.ambient full
+  pub effective_permitted_lem : Within s.effective s.permitted
+  pub ambient_permitted : Within s.ambient s.permitted
+  pub ambient_inheritable : Within s.ambient s.inheritable
+  pub permitted_full : Within s.permitted full
+  pub inheritable_full : Within s.inheritable full
+  pub effective_full : Within s.effective full
+  pub bounding_full : Within s.bounding full
+  pub ambient_full : Within s.ambient full
 
 pub record ValidIds (u : Ids) : Type 0 where
-  pub real-small : u.real ≤ 4294967294
-  pub effective-small : u.effective ≤ 4294967294
-  pub saved-small : u.saved ≤ 4294967294
-  pub filesystem-small : u.filesystem ≤ 4294967294
+  pub real_small : u.real ≤ 4294967294
+  pub effective_small : u.effective ≤ 4294967294
+  pub saved_small : u.saved ≤ 4294967294
+  pub filesystem_small : u.filesystem ≤ 4294967294
 
 pub record Valid (c : Credentials) : Type 0 where
   pub sets : ValidSets c.sets
   pub uids : ValidIds c.uids
   pub gids : ValidIds c.gids
-  pub securebits-small : c.securebits ≤ 255
+  pub securebits_small : c.securebits ≤ 255
 
 -- ---- conjunctions, taken apart and put together
 
@@ -48,91 +48,91 @@ five true true false d e h = absurd (false≢true h)
 five true true true false e h = absurd (false≢true h)
 five true true true true e h = record { first = refl; second = refl; third = refl; fourth = refl; fifth = h }
 
-all-five : {a b c d e : Bool} → Five a b c d e → a && b && c && d && e ≡ true
-all-five f = simp (f.first, f.second, f.third, f.fourth, f.fifth)
+all_five : {a b c d e : Bool} → Five a b c d e → a && b && c && d && e ≡ true
+all_five f = simp (f.first, f.second, f.third, f.fourth, f.fifth)
 
 -- ---- each part, from its test and back
 
 module _ (s : Sets) where
-  valid-sets : effectivePermitted s ≡ true → ambientHeld s ≡ true → noBitAbove40 s ≡ true → ValidSets s
-  valid-sets e a n =
+  valid_sets : effective_permitted s ≡ true → ambient_held s ≡ true → no_bit_above40 s ≡ true → ValidSets s
+  valid_sets e a n =
       let f =
       five (within s.permitted full) (within s.inheritable full) (within s.effective full) (within s.bounding full) (within s.ambient full) n in
       record {
-        effective-permitted = within-sub s.effective s.permitted e;
-        ambient-permitted = within-sub s.ambient s.permitted (and_l (within s.ambient s.permitted) (within s.ambient s.inheritable) a);
-        ambient-inheritable = within-sub s.ambient s.inheritable (and_r (within s.ambient s.permitted) (within s.ambient s.inheritable) a);
-        permitted-full = within-sub s.permitted full f.first;
-        inheritable-full = within-sub s.inheritable full f.second;
-        effective-full = within-sub s.effective full f.third;
-        bounding-full = within-sub s.bounding full f.fourth;
-        ambient-full = within-sub s.ambient full f.fifth;
+        effective_permitted_lem = within_sub s.effective s.permitted e;
+        ambient_permitted = within_sub s.ambient s.permitted (and_l (within s.ambient s.permitted) (within s.ambient s.inheritable) a);
+        ambient_inheritable = within_sub s.ambient s.inheritable (and_r (within s.ambient s.permitted) (within s.ambient s.inheritable) a);
+        permitted_full = within_sub s.permitted full f.first;
+        inheritable_full = within_sub s.inheritable full f.second;
+        effective_full = within_sub s.effective full f.third;
+        bounding_full = within_sub s.bounding full f.fourth;
+        ambient_full = within_sub s.ambient full f.fifth;
       }
 
-  no-bit-above-40 : ValidSets s → noBitAbove40 s ≡ true
-  no-bit-above-40 v =
-      all-five
+  no_bit_above_40 : ValidSets s → no_bit_above40 s ≡ true
+  no_bit_above_40 v =
+      all_five
       (record {
-        first = sub_within v.permitted-full;
-        second = sub_within v.inheritable-full;
-        third = sub_within v.effective-full;
-        fourth = sub_within v.bounding-full;
-        fifth = sub_within v.ambient-full;
+        first = sub_within v.permitted_full;
+        second = sub_within v.inheritable_full;
+        third = sub_within v.effective_full;
+        fourth = sub_within v.bounding_full;
+        fifth = sub_within v.ambient_full;
       })
 
-  ambient-held : ValidSets s → ambientHeld s ≡ true
-  ambient-held v =
-      and_i (within s.ambient s.permitted) (within s.ambient s.inheritable) (sub_within v.ambient-permitted) (sub_within v.ambient-inheritable)
+  ambient_held_lem : ValidSets s → ambient_held s ≡ true
+  ambient_held_lem v =
+      and_i (within s.ambient s.permitted) (within s.ambient s.inheritable) (sub_within v.ambient_permitted) (sub_within v.ambient_inheritable)
 
 module _ (u : Ids) where
-  pub valid-ids : idsInRange u ≡ true → ValidIds u
-  valid-ids h =
-      let f = five true (idInRange u.real) (idInRange u.effective) (idInRange u.saved) (idInRange u.filesystem) h in
+  pub valid_ids : ids_in_range u ≡ true → ValidIds u
+  valid_ids h =
+      let f = five true (id_in_range u.real) (id_in_range u.effective) (id_in_range u.saved) (id_in_range u.filesystem) h in
       record {
-        real-small = leb-true u.real 4294967294 f.second;
-        effective-small = leb-true u.effective 4294967294 f.third;
-        saved-small = leb-true u.saved 4294967294 f.fourth;
-        filesystem-small = leb-true u.filesystem 4294967294 f.fifth;
+        real_small = leb-true u.real 4294967294 f.second;
+        effective_small = leb-true u.effective 4294967294 f.third;
+        saved_small = leb-true u.saved 4294967294 f.fourth;
+        filesystem_small = leb-true u.filesystem 4294967294 f.fifth;
       }
 
-  pub ids-in-range : ValidIds u → idsInRange u ≡ true
-  ids-in-range v =
+  pub ids_in_range_lem : ValidIds u → ids_in_range u ≡ true
+  ids_in_range_lem v =
       simp (
-        le-leb u.real 4294967294 v.real-small,
-        le-leb u.effective 4294967294 v.effective-small,
-        le-leb u.saved 4294967294 v.saved-small,
-        le-leb u.filesystem 4294967294 v.filesystem-small,
+        le-leb u.real 4294967294 v.real_small,
+        le-leb u.effective 4294967294 v.effective_small,
+        le-leb u.saved 4294967294 v.saved_small,
+        le-leb u.filesystem 4294967294 v.filesystem_small,
       )
 
 -- ---- the law
 
 -- every clause but the last
-abbrev setsAndIds : Credentials → Bool
-setsAndIds c = effectivePermitted c.sets && ambientHeld c.sets && noBitAbove40 c.sets && idsInRange c.uids && idsInRange c.gids
+abbrev sets_and_ids : Credentials → Bool
+sets_and_ids c = effective_permitted c.sets && ambient_held c.sets && no_bit_above40 c.sets && ids_in_range c.uids && ids_in_range c.gids
 
-pub valid-facts : (c : Credentials) → valid c ≡ true → Valid c
+pub valid_facts : (c : Credentials) → valid c ≡ true → Valid c
 unfolding valid
-valid-facts c h =
+valid_facts c h =
     let f =
-    five (effectivePermitted c.sets) (ambientHeld c.sets) (noBitAbove40 c.sets) (idsInRange c.uids) (idsInRange c.gids)
-    (and_l (setsAndIds c) (securebitsInRange c.securebits) h) in
+    five (effective_permitted c.sets) (ambient_held c.sets) (no_bit_above40 c.sets) (ids_in_range c.uids) (ids_in_range c.gids)
+    (and_l (sets_and_ids c) (securebits_in_range c.securebits) h) in
     record {
-      sets = valid-sets c.sets f.first f.second f.third;
-      uids = valid-ids c.uids f.fourth;
-      gids = valid-ids c.gids f.fifth;
-      securebits-small = leb-true c.securebits 255 (and_r (setsAndIds c) (securebitsInRange c.securebits) h);
+      sets = valid_sets c.sets f.first f.second f.third;
+      uids = valid_ids c.uids f.fourth;
+      gids = valid_ids c.gids f.fifth;
+      securebits_small = leb-true c.securebits 255 (and_r (sets_and_ids c) (securebits_in_range c.securebits) h);
     }
 
-pub facts-valid : (c : Credentials) → Valid c → valid c ≡ true
+pub facts_valid : (c : Credentials) → Valid c → valid c ≡ true
 unfolding valid
-facts-valid c v =
-    and_i (setsAndIds c) (securebitsInRange c.securebits)
-    (all-five
+facts_valid c v =
+    and_i (sets_and_ids c) (securebits_in_range c.securebits)
+    (all_five
     (record {
-      first = sub_within v.sets.effective-permitted;
-      second = ambient-held c.sets v.sets;
-      third = no-bit-above-40 c.sets v.sets;
-      fourth = ids-in-range c.uids v.uids;
-      fifth = ids-in-range c.gids v.gids;
+      first = sub_within v.sets.effective_permitted_lem;
+      second = ambient_held_lem c.sets v.sets;
+      third = no_bit_above_40 c.sets v.sets;
+      fourth = ids_in_range_lem c.uids v.uids;
+      fifth = ids_in_range_lem c.gids v.gids;
     }))
-    (le-leb c.securebits 255 v.securebits-small)
+    (le-leb c.securebits 255 v.securebits_small)

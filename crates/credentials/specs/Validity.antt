@@ -6,16 +6,16 @@ use Rattle.credentials.specs.declared.Sets.{Sets}
 use Rattle.credentials.specs.declared.Credentials.{Credentials}
 
 -- E is within P
-abbrev pub effectivePermitted : Sets → Bool
-effectivePermitted s = within s.effective s.permitted
+abbrev pub effective_permitted : Sets → Bool
+effective_permitted s = within s.effective s.permitted
 
 -- A is within P and within I
-abbrev pub ambientHeld : Sets → Bool
-ambientHeld s = within s.ambient s.permitted && within s.ambient s.inheritable
+abbrev pub ambient_held : Sets → Bool
+ambient_held s = within s.ambient s.permitted && within s.ambient s.inheritable
 
 -- no set has a bit above 40
-abbrev pub noBitAbove40 : Sets → Bool
-noBitAbove40 s =
+abbrev pub no_bit_above40 : Sets → Bool
+no_bit_above40 s =
     within s.permitted full
     && within s.inheritable full
     && within s.effective full
@@ -23,23 +23,23 @@ noBitAbove40 s =
     && within s.ambient full
 
 -- an ID is at most 4294967294
-abbrev pub idInRange : ℕ → Bool
-idInRange n = leb n 4294967294
+abbrev pub id_in_range : ℕ → Bool
+id_in_range n = leb n 4294967294
 
 -- each of four user or group IDs is
-abbrev pub idsInRange : Ids → Bool
-idsInRange u = idInRange u.real && idInRange u.effective && idInRange u.saved && idInRange u.filesystem
+abbrev pub ids_in_range : Ids → Bool
+ids_in_range u = id_in_range u.real && id_in_range u.effective && id_in_range u.saved && id_in_range u.filesystem
 
 -- securebits are at most 255
-abbrev pub securebitsInRange : ℕ → Bool
-securebitsInRange b = leb b 255
+abbrev pub securebits_in_range : ℕ → Bool
+securebits_in_range b = leb b 255
 
 -- all of it
 unfoldable pub valid : Credentials → Bool
 valid c =
-    effectivePermitted c.sets
-    && ambientHeld c.sets
-    && noBitAbove40 c.sets
-    && idsInRange c.uids
-    && idsInRange c.gids
-    && securebitsInRange c.securebits
+    effective_permitted c.sets
+    && ambient_held c.sets
+    && no_bit_above40 c.sets
+    && ids_in_range c.uids
+    && ids_in_range c.gids
+    && securebits_in_range c.securebits

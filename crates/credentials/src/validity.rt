@@ -1,6 +1,6 @@
 // Which credentials are valid.
 ghost use Rattle.std.specs.Prelude.{◌≡◌};
-ghost use Rattle.credentials.specs.Validity.{ambientHeld, idsInRange, noBitAbove40, valid};
+ghost use Rattle.credentials.specs.Validity.{ambient_held, ids_in_range, no_bit_above40, valid};
 
 use crate::{Credentials, Ids, Sets};
 use capabilities::sets;
@@ -25,13 +25,13 @@ pub fn is_valid(given: Credentials) -> bool
 }
 
 fn ambient_is_held(held: Sets) -> bool
-    ensures { result ≡ ambientHeld held }
+    ensures { result ≡ ambient_held held }
 {
     sets::is_within(held.ambient, held.permitted) & sets::is_within(held.ambient, held.inheritable)
 }
 
 fn has_no_bit_above_40(held: Sets) -> bool
-    ensures { result ≡ noBitAbove40 held }
+    ensures { result ≡ no_bit_above40 held }
 {
     sets::is_within(held.permitted, sets::FULL)
         & sets::is_within(held.inheritable, sets::FULL)
@@ -41,7 +41,7 @@ fn has_no_bit_above_40(held: Sets) -> bool
 }
 
 fn ids_are_in_range(ids: Ids) -> bool
-    ensures { result ≡ idsInRange ids }
+    ensures { result ≡ ids_in_range ids }
 {
     (ids.real <= LARGEST_ID)
         & (ids.effective <= LARGEST_ID)

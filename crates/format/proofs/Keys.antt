@@ -8,18 +8,18 @@ use native.Mathlib.Numerals.{add-one}
 use lib.Dec.{eqb}
 use lib.ListN.{length, get_or, drop, drop_of_length-le}
 use lib.Seq.{drop-cons}
-use Rattle.format.specs.Line.{Read, fault, starts_with, afterKey}
+use Rattle.format.specs.Line.{Read, fault, starts_with, after_key}
 
 -- ---- at a position
 
-pub starts-step : (key text : List ℕ) (k i j : ℕ) → k < length key → i < length text → j ≡ i + 1
+pub starts_step : (key text : List ℕ) (k i j : ℕ) → k < length key → i < length text → j ≡ i + 1
     → starts_with (drop k key) (drop i text) ≡ cond (eqb (get_or text i 0) (get_or key k 0)) (starts_with (drop (k + 1) key) (drop j text)) false
 unfolding starts_with
-starts-step key text k i j h g e = rw (drop-cons key k 0 h, drop-cons text i 0 g, e, add-one i, add-one k)
+starts_step key text k i j h g e = rw (drop-cons key k 0 h, drop-cons text i 0 g, e, add-one i, add-one k)
 
-pub starts-end : (key t : List ℕ) (k : ℕ) → length key ≤ k → starts_with (drop k key) t ≡ true
+pub starts_end : (key t : List ℕ) (k : ℕ) → length key ≤ k → starts_with (drop k key) t ≡ true
 unfolding starts_with
-starts-end key t k h = rw (drop_of_length-le key h)
+starts_end key t k h = rw (drop_of_length-le key h)
 
 -- ---- and what is read after the key
 
@@ -27,20 +27,20 @@ both_true : (s x : Bool) → cond s x false ≡ true → (s ≡ true) × (x ≡ 
 both_true true x h = (refl, h)
 both_true false x h = let z : ◌≡◌ {A = ℕ} 0 1 = cc in absurd (omega arith)
 
-pub key-there : {A : Type 0} (key : List ℕ) (f : List ℕ → Read A) (t : List ℕ) → starts_with key t ≡ true → afterKey key f t ≡ f (drop (length key) t)
-unfolding starts_with afterKey
-key-there [] f t h = refl
-key-there (k ∷ ks) f [] h = let z : ◌≡◌ {A = ℕ} 0 1 = cc in absurd (omega arith)
-key-there (k ∷ ks) f (b ∷ t) h =
+pub key_there : {A : Type 0} (key : List ℕ) (f : List ℕ → Read A) (t : List ℕ) → starts_with key t ≡ true → after_key key f t ≡ f (drop (length key) t)
+unfolding starts_with after_key
+key_there [] f t h = refl
+key_there (k ∷ ks) f [] h = let z : ◌≡◌ {A = ℕ} 0 1 = cc in absurd (omega arith)
+key_there (k ∷ ks) f (b ∷ t) h =
     let e = both_true (eqb b k) (starts_with ks t) h in
-    rw e.0 (key-there ks f t e.1)
+    rw e.0 (key_there ks f t e.1)
 
 by_byte : {A : Type 0} (s x : Bool) (r : Read A) → cond s x false ≡ false → (x ≡ false → r ≡ fault) → cond s r fault ≡ fault
 by_byte true x r h f = f h
 by_byte false x r h f = refl
 
-pub key-missing : {A : Type 0} (key : List ℕ) (f : List ℕ → Read A) (t : List ℕ) → starts_with key t ≡ false → afterKey key f t ≡ fault
-unfolding starts_with afterKey
-key-missing [] f t h = let z : ◌≡◌ {A = ℕ} 0 1 = cc in absurd (omega arith)
-key-missing (k ∷ ks) f [] h = refl
-key-missing (k ∷ ks) f (b ∷ t) h = by_byte (eqb b k) (starts_with ks t) (afterKey ks f t) h (λ g. key-missing ks f t g)
+pub key_missing : {A : Type 0} (key : List ℕ) (f : List ℕ → Read A) (t : List ℕ) → starts_with key t ≡ false → after_key key f t ≡ fault
+unfolding starts_with after_key
+key_missing [] f t h = let z : ◌≡◌ {A = ℕ} 0 1 = cc in absurd (omega arith)
+key_missing (k ∷ ks) f [] h = refl
+key_missing (k ∷ ks) f (b ∷ t) h = by_byte (eqb b k) (starts_with ks t) (after_key ks f t) h (λ g. key_missing ks f t g)

@@ -10,14 +10,14 @@ use Rattle.rules.specs.Decoding.{decode}
 use Rattle.rules.specs.Call.{answer}
 use Rattle.rules.specs.Run.{Step, result, run, last_of, left}
 use Rattle.format.specs.declared.SheetReading.TheVariants.{Sheet}
-use Rattle.format.specs.Line.{bytes, read, hexText, decimalOf, decimalText, keyedText, linesText, readHex, readDigits, readDecimal, afterKey, readLines}
-use Rattle.format.specs.Sheet.{idKinds, uidKinds, gidKinds, setKinds, flagKinds, sheetKinds, sheetText, readFront, readSheet}
-use Rattle.format.specs.Step.{stepKinds, readPairs, read_step}
-use Rattle.format.specs.Plan.{Plan, readMany, readPlanBy, readPlan}
-use Rattle.format.specs.Report.{resultKinds, resultText, resultsText, reportText, report, judgedBy, verdict}
-use Rattle.format.specs.Longest.{longestSheet, longestPlan, longestReport}
+use Rattle.format.specs.Line.{bytes, read, hex_text, decimal_of, decimal_text, keyed_text, lines_text, read_hex, read_digits, read_decimal, after_key, read_lines}
+use Rattle.format.specs.Sheet.{id_kinds, uid_kinds, gid_kinds, set_kinds, flag_kinds, sheet_kinds, sheet_text, read_front, read_sheet}
+use Rattle.format.specs.Step.{step_kinds, read_pairs, read_step}
+use Rattle.format.specs.Plan.{Plan, read_many, read_plan_by, read_plan}
+use Rattle.format.specs.Report.{result_kinds, result_text, results_text, report_text, report, judged_by, verdict}
+use Rattle.format.specs.Longest.{longest_sheet, longest_plan, longest_report}
 use Rattle.format.specs.Texts.{times}
-use Rattle.format.proofs.RoundTrip.{sheet-round-trip}
+use Rattle.format.proofs.RoundTrip.{sheet_round_trip}
 
 -- ---- the plan, and its text
 
@@ -53,43 +53,43 @@ text =
     (bytes "call=99\na=0000000000000000\nb=0000000000000000\nc=0000000000000000\n"
     ++ bytes "attr=000000000000000000000000000000000000000000000000\n")
 
-pub sheet-read : readSheet sheet ≡ Sheet start
-unfolding valid readHex readDigits readDecimal afterKey readLines idKinds uidKinds gidKinds setKinds flagKinds sheetKinds readFront readSheet
-sheet-read = refl
+pub sheet_read : read_sheet sheet ≡ Sheet start
+unfolding valid read_hex read_digits read_decimal after_key read_lines id_kinds uid_kinds gid_kinds set_kinds flag_kinds sheet_kinds read_front read_sheet
+sheet_read = refl
 
-pub sheet-length : length sheet ≡ longestSheet
-sheet-length = refl
+pub sheet_length : length sheet ≡ longest_sheet
+sheet_length = refl
 
-pub text-read : readPlan text ≡ read plan []
-unfolding times readHex readDigits readDecimal afterKey readLines idKinds uidKinds gidKinds setKinds flagKinds sheetKinds readFront stepKinds readPairs read_step readMany readPlanBy
-text-read = refl
+pub text_read : read_plan text ≡ read plan []
+unfolding times read_hex read_digits read_decimal after_key read_lines id_kinds uid_kinds gid_kinds set_kinds flag_kinds sheet_kinds read_front step_kinds read_pairs read_step read_many read_plan_by
+text_read = refl
 
-pub text-length : length text ≡ longestPlan
+pub text_length : length text ≡ longest_plan
 unfolding times
-text-length = refl
+text_length = refl
 
-pub text-verdict : verdict text ≡ report (reportText plan)
+pub text_verdict : verdict text ≡ report (report_text plan)
 unfolding valid verdict
-text-verdict = ap (judgedBy reportText) text-read
+text_verdict = ap (judged_by report_text) text_read
 
 -- ---- its report
 
 -- the sheet of the start, by its round trip: the definition of decimal digits is not one to compute a number of ten digits with
-pub sheet-written : sheetText start ≡ sheet
-sheet-written = sym (sheet-round-trip.read-written sheet start sheet-read).0
+pub sheet_written : sheet_text start ≡ sheet
+sheet_written = sym (sheet_round_trip.read_written sheet start sheet_read).0
 
 -- 256 times 39 bytes
-results-length : length (resultsText (run start plan.steps)) ≡ 9984
-unfolding valid decode answer result run hexText decimalOf decimalText keyedText linesText resultKinds resultText resultsText
-results-length = refl
+results_length : length (results_text (run start plan.steps)) ≡ 9984
+unfolding valid decode answer result run hex_text decimal_of decimal_text keyed_text lines_text result_kinds result_text results_text
+results_length = refl
 
 -- and the start's sheet of 284, since nothing changes
 start_left : left start plan.steps ≡ start
 unfolding valid decode answer result run last_of
 start_left = refl
 
-pub report-length : length (reportText plan) ≡ longestReport
-unfolding reportText
-report-length =
-    length-append (resultsText (run start plan.steps)) (sheetText (left start plan.steps))
-    ∙ rw (results-length, start_left, sheet-written)
+pub report_length : length (report_text plan) ≡ longest_report
+unfolding report_text
+report_length =
+    length-append (results_text (run start plan.steps)) (sheet_text (left start plan.steps))
+    ∙ rw (results_length, start_left, sheet_written)

@@ -29,101 +29,101 @@ abbrev pub digit : ℕ → ℕ
 digit d = cond (ltb d 10) (48 + d) (87 + d)
 
 -- the last n hex digits of v
-unfoldable pub hexText : ℕ → ℕ → List ℕ
-hexText zero v = []
-hexText (suc n) v = hexText n (v / 16) ++ (digit (v % 16) ∷ [])
+unfoldable pub hex_text : ℕ → ℕ → List ℕ
+hex_text zero v = []
+hex_text (suc n) v = hex_text n (v / 16) ++ (digit (v % 16) ∷ [])
 
 -- the decimal digits of v, no leading zeros, where v has at most n of them
-unfoldable pub decimalOf : ℕ → ℕ → List ℕ
-decimalOf zero v = []
-decimalOf (suc n) v = cond (ltb v 10) (digit v ∷ []) (decimalOf n (v / 10) ++ (digit (v % 10) ∷ []))
+unfoldable pub decimal_of : ℕ → ℕ → List ℕ
+decimal_of zero v = []
+decimal_of (suc n) v = cond (ltb v 10) (digit v ∷ []) (decimal_of n (v / 10) ++ (digit (v % 10) ∷ []))
 
 -- the decimal digits of v: there are never more than v + 1
-unfoldable pub decimalText : ℕ → List ℕ
-decimalText v = decimalOf (suc v) v
+unfoldable pub decimal_text : ℕ → List ℕ
+decimal_text v = decimal_of (suc v) v
 
 -- a value in its form
-abbrev pub valueText : Form → ℕ → List ℕ
-valueText (decimal largest) v = decimalText v
-valueText (hex n) v = hexText n v
+abbrev pub value_text : Form → ℕ → List ℕ
+value_text (decimal largest) v = decimal_text v
+value_text (hex n) v = hex_text n v
 
 -- a key with its `=`, a value's text and a newline
-unfoldable pub keyedText : List ℕ → List ℕ → List ℕ
-keyedText key value = key ++ (value ++ bytes "\n")
+unfoldable pub keyed_text : List ℕ → List ℕ → List ℕ
+keyed_text key value = key ++ (value ++ bytes "\n")
 
 -- the line of a kind
-abbrev pub lineText : Kind → ℕ → List ℕ
-lineText k v = keyedText k.key (valueText k.form v)
+abbrev pub line_text : Kind → ℕ → List ℕ
+line_text k v = keyed_text k.key (value_text k.form v)
 
 -- the lines of these kinds with these values, in this order
-unfoldable pub linesText : List Kind → List ℕ → List ℕ
-linesText [] vs = []
-linesText (k ∷ ks) [] = []
-linesText (k ∷ ks) (v ∷ vs) = lineText k v ++ linesText ks vs
+unfoldable pub lines_text : List Kind → List ℕ → List ℕ
+lines_text [] vs = []
+lines_text (k ∷ ks) [] = []
+lines_text (k ∷ ks) (v ∷ vs) = line_text k v ++ lines_text ks vs
 
 -- ---- read
 
 -- what a text begins with and the text after that; or the line of the first fault, which is one more than the complete correct lines before it
 pub data Read (A : Type 0) : Type 0 where
   read : A → List ℕ → Read A
-  faultAt : ℕ → Read A
+  fault_at : ℕ → Read A
 
 -- a fault in the line that is being read
 abbrev pub fault : {A : Type 0} → Read A
-fault = faultAt 1
+fault = fault_at 1
 
 -- what is read after n lines: a fault there is n lines further on
 abbrev pub below : {A : Type 0} → ℕ → Read A → Read A
 below n (read v t) = read v t
-below n (faultAt line) = faultAt (n + line)
+below n (fault_at line) = fault_at (n + line)
 
 -- n lines are read, and what follows them depends on their value
 abbrev pub next : {A B : Type 0} → ℕ → Read A → (A → List ℕ → Read B) → Read B
 next n (read v t) f = below n (f v t)
-next n (faultAt line) f = faultAt line
+next n (fault_at line) f = fault_at line
 
 -- what was read, made into another value
 abbrev pub mapped : {A B : Type 0} → (A → B) → Read A → Read B
 mapped f (read v t) = read (f v) t
-mapped f (faultAt line) = faultAt line
+mapped f (fault_at line) = fault_at line
 
 -- the number of a lower-case hex digit, and 16 for any other byte
-abbrev pub hexDigit : ℕ → ℕ
-hexDigit b = cond (ltb b 48) 16 (cond (ltb b 58) (b - 48) (cond (ltb b 97) 16 (cond (ltb b 103) (b - 87) 16)))
+abbrev pub hex_digit : ℕ → ℕ
+hex_digit b = cond (ltb b 48) 16 (cond (ltb b 58) (b - 48) (cond (ltb b 97) 16 (cond (ltb b 103) (b - 87) 16)))
 
 -- the number of a decimal digit, and 10 for any other byte
-abbrev pub decimalDigit : ℕ → ℕ
-decimalDigit b = cond (ltb b 48) 10 (cond (ltb b 58) (b - 48) 10)
+abbrev pub decimal_digit : ℕ → ℕ
+decimal_digit b = cond (ltb b 48) 10 (cond (ltb b 58) (b - 48) 10)
 
 -- the byte of a newline
 abbrev pub newline : ℕ
 newline = 10
 
 -- n more hex digits and a newline, where the digits before them make the number v
-unfoldable pub readHex : ℕ → ℕ → List ℕ → Read ℕ
-readHex zero v [] = fault
-readHex zero v (b ∷ t) = cond (eqb b newline) (read v t) fault
-readHex (suc n) v [] = fault
-readHex (suc n) v (b ∷ t) = cond (ltb (hexDigit b) 16) (readHex n (v * 16 + hexDigit b) t) fault
+unfoldable pub read_hex : ℕ → ℕ → List ℕ → Read ℕ
+read_hex zero v [] = fault
+read_hex zero v (b ∷ t) = cond (eqb b newline) (read v t) fault
+read_hex (suc n) v [] = fault
+read_hex (suc n) v (b ∷ t) = cond (ltb (hex_digit b) 16) (read_hex n (v * 16 + hex_digit b) t) fault
 
 -- a newline, or more digits of a number up to the largest, where the digits before them make the number v; after a leading zero none can follow
-unfoldable pub readDigits : ℕ → ℕ → List ℕ → Read ℕ
-readDigits largest v [] = fault
-readDigits largest v (b ∷ t) =
+unfoldable pub read_digits : ℕ → ℕ → List ℕ → Read ℕ
+read_digits largest v [] = fault
+read_digits largest v (b ∷ t) =
     cond (eqb b newline) (read v t)
     (cond (eqb v 0) fault
-    (cond (ltb (decimalDigit b) 10 && leb (v * 10 + decimalDigit b) largest) (readDigits largest (v * 10 + decimalDigit b) t) fault))
+    (cond (ltb (decimal_digit b) 10 && leb (v * 10 + decimal_digit b) largest) (read_digits largest (v * 10 + decimal_digit b) t) fault))
 
 -- a decimal number up to the largest, no leading zeros, and a newline
-unfoldable pub readDecimal : ℕ → List ℕ → Read ℕ
-readDecimal largest [] = fault
-readDecimal largest (b ∷ t) =
-    cond (ltb (decimalDigit b) 10 && leb (decimalDigit b) largest) (readDigits largest (decimalDigit b) t) fault
+unfoldable pub read_decimal : ℕ → List ℕ → Read ℕ
+read_decimal largest [] = fault
+read_decimal largest (b ∷ t) =
+    cond (ltb (decimal_digit b) 10 && leb (decimal_digit b) largest) (read_digits largest (decimal_digit b) t) fault
 
 -- a value in its form, and a newline
-abbrev pub readValue : Form → List ℕ → Read ℕ
-readValue (decimal largest) t = readDecimal largest t
-readValue (hex n) t = readHex n 0 t
+abbrev pub read_value : Form → List ℕ → Read ℕ
+read_value (decimal largest) t = read_decimal largest t
+read_value (hex n) t = read_hex n 0 t
 
 -- a text starts with a key
 unfoldable pub starts_with : List ℕ → List ℕ → Bool
@@ -132,20 +132,20 @@ starts_with (k ∷ ks) [] = false
 starts_with (k ∷ ks) (b ∷ t) = cond (eqb b k) (starts_with ks t) false
 
 -- the bytes of a key, then what follows it
-unfoldable pub afterKey : {A : Type 0} → List ℕ → (List ℕ → Read A) → List ℕ → Read A
-afterKey [] f t = f t
-afterKey (k ∷ ks) f [] = fault
-afterKey (k ∷ ks) f (b ∷ t) = cond (eqb b k) (afterKey ks f t) fault
+unfoldable pub after_key : {A : Type 0} → List ℕ → (List ℕ → Read A) → List ℕ → Read A
+after_key [] f t = f t
+after_key (k ∷ ks) f [] = fault
+after_key (k ∷ ks) f (b ∷ t) = cond (eqb b k) (after_key ks f t) fault
 
 -- a key with its `=`, a value and a newline
-abbrev pub readKeyed : List ℕ → Form → List ℕ → Read ℕ
-readKeyed key form t = afterKey key (readValue form) t
+abbrev pub read_keyed : List ℕ → Form → List ℕ → Read ℕ
+read_keyed key form t = after_key key (read_value form) t
 
 -- a line of a kind
-abbrev pub readLine : Kind → List ℕ → Read ℕ
-readLine k t = readKeyed k.key k.form t
+abbrev pub read_line : Kind → List ℕ → Read ℕ
+read_line k t = read_keyed k.key k.form t
 
 -- lines of these kinds, in this order: their values
-unfoldable pub readLines : List Kind → List ℕ → Read (List ℕ)
-readLines [] t = read [] t
-readLines (k ∷ ks) t = next 1 (readLine k t) (λ v rest. mapped (λ vs. v ∷ vs) (readLines ks rest))
+unfoldable pub read_lines : List Kind → List ℕ → Read (List ℕ)
+read_lines [] t = read [] t
+read_lines (k ∷ ks) t = next 1 (read_line k t) (λ v rest. mapped (λ vs. v ∷ vs) (read_lines ks rest))

@@ -3,25 +3,25 @@ use Rattle.std.specs.Prelude.{ℕ, ◌+◌, ◌*◌, List, [], ◌∷◌, ◌++�
 use Rattle.credentials.specs.Validity.{valid}
 use Rattle.rules.specs.Run.{Result, run, left}
 use Rattle.format.specs.declared.Outcome.{Outcome}
-use Rattle.format.specs.Line.{Kind, kind, decimal, hex, linesText, Read, read, faultAt}
-use Rattle.format.specs.Sheet.{sheetText}
-use Rattle.format.specs.Plan.{PlanOf, Plan, readPlan}
+use Rattle.format.specs.Line.{Kind, kind, decimal, hex, lines_text, Read, read, fault_at}
+use Rattle.format.specs.Sheet.{sheet_text}
+use Rattle.format.specs.Plan.{PlanOf, Plan, read_plan}
 
 -- the three lines of a step's result: code in decimal, value in 16 hex digits, cause in decimal ("Why it was refused")
-unfoldable pub resultKinds : List Kind
-resultKinds = kind "code=" (decimal 99) ∷ kind "value=" (hex 16) ∷ kind "cause=" (decimal 11) ∷ []
+unfoldable pub result_kinds : List Kind
+result_kinds = kind "code=" (decimal 99) ∷ kind "value=" (hex 16) ∷ kind "cause=" (decimal 11) ∷ []
 
-unfoldable pub resultText : Result → List ℕ
-resultText r = linesText resultKinds (r.code ∷ r.value ∷ r.cause ∷ [])
+unfoldable pub result_text : Result → List ℕ
+result_text r = lines_text result_kinds (r.code ∷ r.value ∷ r.cause ∷ [])
 
 -- three lines for each result
-unfoldable pub resultsText : List Result → List ℕ
-resultsText [] = []
-resultsText (r ∷ rs) = resultText r ++ resultsText rs
+unfoldable pub results_text : List Result → List ℕ
+results_text [] = []
+results_text (r ∷ rs) = result_text r ++ results_text rs
 
 -- the results of the steps, each from the state before it, refused ones included; then the sheet of the last state
-unfoldable pub reportText : Plan → List ℕ
-reportText p = resultsText (run p.start p.steps) ++ sheetText (left p.start p.steps)
+unfoldable pub report_text : Plan → List ℕ
+report_text p = results_text (run p.start p.steps) ++ sheet_text (left p.start p.steps)
 
 -- what a plan's text comes to, before the buffer is looked at
 pub data Verdict : Type 0 where
@@ -30,12 +30,12 @@ pub data Verdict : Type 0 where
   invalid : Verdict
 
 -- of a plan with steps of some kind, by its report: 70 anywhere in the text comes before 72
-abbrev pub judgedBy : {A : Type 0} → (PlanOf A → List ℕ) → Read (PlanOf A) → Verdict
-judgedBy text (read p t) = cond (valid p.start) (report (text p)) invalid
-judgedBy text (faultAt line) = malformed line
+abbrev pub judged_by : {A : Type 0} → (PlanOf A → List ℕ) → Read (PlanOf A) → Verdict
+judged_by text (read p t) = cond (valid p.start) (report (text p)) invalid
+judged_by text (fault_at line) = malformed line
 
 unfoldable pub verdict : List ℕ → Verdict
-verdict text = judgedBy reportText (readPlan text)
+verdict text = judged_by report_text (read_plan text)
 
 -- the runner's code, line and report length, with a buffer of some length: 28 comes last
 abbrev pub outcome : Verdict → ℕ → Outcome
@@ -51,5 +51,5 @@ buffer (malformed line) old = old
 buffer invalid old = old
 
 -- the C interface's number: code times 4294967296, and line or length, of which one is 0
-abbrev pub cNumber : Outcome → ℕ
-cNumber o = o.code * 4294967296 + (o.line + o.length)
+abbrev pub c_number : Outcome → ℕ
+c_number o = o.code * 4294967296 + (o.line + o.length)

@@ -7,16 +7,16 @@ use Rattle.credentials.specs.declared.Credentials.{Credentials}
 use Rattle.rules.specs.Run.{Step}
 use Rattle.format.specs.declared.SheetReading.TheVariants.{Sheet}
 use Rattle.format.specs.Line.{read}
-use Rattle.format.specs.Sheet.{sheetText, readSheet}
-use Rattle.format.specs.Step.{stepText, read_step}
-use Rattle.format.specs.Plan.{PlanOf, Plan, planText, readPlan}
+use Rattle.format.specs.Sheet.{sheet_text, read_sheet}
+use Rattle.format.specs.Step.{step_text, read_step}
+use Rattle.format.specs.Plan.{PlanOf, Plan, plan_text, read_plan}
 
 -- sheets
 pub record SheetRoundTrip : Type 0 where
   -- reading the sheet written for valid credentials gives them back
-  pub written_read : (c : Credentials) → valid c ≡ true → readSheet (sheetText c) ≡ Sheet c
+  pub written_read : (c : Credentials) → valid c ≡ true → read_sheet (sheet_text c) ≡ Sheet c
   -- a text that is read as credentials is the sheet written for them, and they are valid
-  pub read-written : (text : List ℕ) (c : Credentials) → readSheet text ≡ Sheet c → (text ≡ sheetText c) × (valid c ≡ true)
+  pub read_written : (text : List ℕ) (c : Credentials) → read_sheet text ≡ Sheet c → (text ≡ sheet_text c) × (valid c ≡ true)
 
 -- what a step can hold: a number up to 99, operands of 64 bits, at most 24 attribute bytes
 pub record Writable (s : Step) : Type 0 where
@@ -29,8 +29,8 @@ pub record Writable (s : Step) : Type 0 where
 
 -- steps: a text is read as a step exactly if it begins with that step's written form
 pub record StepRoundTrip : Type 0 where
-  pub written_read : (s : Step) (rest : List ℕ) → Writable s → read_step (stepText s ++ rest) ≡ read s rest
-  pub read-written : (text : List ℕ) (s : Step) (rest : List ℕ) → read_step text ≡ read s rest → (text ≡ stepText s ++ rest) × Writable s
+  pub written_read : (s : Step) (rest : List ℕ) → Writable s → read_step (step_text s ++ rest) ≡ read s rest
+  pub read_written : (text : List ℕ) (s : Step) (rest : List ℕ) → read_step text ≡ read s rest → (text ≡ step_text s ++ rest) × Writable s
 
 -- four IDs that a sheet can hold: up to 4294967295
 pub record WritableIds (u : Ids) : Type 0 where
@@ -66,5 +66,5 @@ WritablePlan p = WritablePlanOf Writable p
 
 -- plans: a text is read as a plan exactly if it is that plan's written form
 pub record PlanRoundTrip : Type 0 where
-  pub written_read : (p : Plan) → WritablePlan p → readPlan (planText p) ≡ read p []
-  pub read-written : (text : List ℕ) (p : Plan) (rest : List ℕ) → readPlan text ≡ read p rest → (text ≡ planText p) × (rest ≡ []) × WritablePlan p
+  pub written_read : (p : Plan) → WritablePlan p → read_plan (plan_text p) ≡ read p []
+  pub read_written : (text : List ℕ) (p : Plan) (rest : List ℕ) → read_plan text ≡ read p rest → (text ≡ plan_text p) × (rest ≡ []) × WritablePlan p

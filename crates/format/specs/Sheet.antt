@@ -9,27 +9,27 @@ use Rattle.credentials.specs.declared.Credentials.{Credentials}
 use Rattle.rules.specs.Fields.{number}
 use Rattle.format.specs.declared.SheetReading.{SheetReading}
 use Rattle.format.specs.declared.SheetReading.TheVariants.{Sheet, Malformed, Invalid}
-use Rattle.format.specs.Line.{bytes, Kind, kind, decimal, hex, linesText, Read, read, faultAt, mapped, readLines}
+use Rattle.format.specs.Line.{bytes, Kind, kind, decimal, hex, lines_text, Read, read, fault_at, mapped, read_lines}
 
 -- an ID's line: decimal up to 4294967295; the letter in its key is that of users or of groups
-abbrev idKind : String → List ℕ → Kind
-idKind which letter = record { key = bytes which ++ (letter ++ bytes "id="); form = decimal 4294967295 }
+abbrev id_kind : String → List ℕ → Kind
+id_kind which letter = record { key = bytes which ++ (letter ++ bytes "id="); form = decimal 4294967295 }
 
 -- a real, an effective, a saved and a filesystem ID
-unfoldable pub idKinds : List ℕ → List Kind
-idKinds letter = idKind "r" letter ∷ idKind "e" letter ∷ idKind "s" letter ∷ idKind "fs" letter ∷ []
+unfoldable pub id_kinds : List ℕ → List Kind
+id_kinds letter = id_kind "r" letter ∷ id_kind "e" letter ∷ id_kind "s" letter ∷ id_kind "fs" letter ∷ []
 
 -- the user IDs: ruid, euid, suid, fsuid
-unfoldable pub uidKinds : List Kind
-uidKinds = idKinds (bytes "u")
+unfoldable pub uid_kinds : List Kind
+uid_kinds = id_kinds (bytes "u")
 
 -- the group IDs: rgid, egid, sgid, fsgid
-unfoldable pub gidKinds : List Kind
-gidKinds = idKinds (bytes "g")
+unfoldable pub gid_kinds : List Kind
+gid_kinds = id_kinds (bytes "g")
 
 -- the capability sets: 16 hex digits
-unfoldable pub setKinds : List Kind
-setKinds =
+unfoldable pub set_kinds : List Kind
+set_kinds =
     kind "permitted=" (hex 16) ∷
     kind "inheritable=" (hex 16) ∷
     kind "effective=" (hex 16) ∷
@@ -38,37 +38,37 @@ setKinds =
     []
 
 -- securebits, 2 hex digits, and no-new-privs, 0 or 1
-unfoldable pub flagKinds : List Kind
-flagKinds = kind "securebits=" (hex 2) ∷ kind "nnp=" (decimal 1) ∷ []
+unfoldable pub flag_kinds : List Kind
+flag_kinds = kind "securebits=" (hex 2) ∷ kind "nnp=" (decimal 1) ∷ []
 
 -- the fifteen lines of a sheet, in order
-unfoldable pub sheetKinds : List Kind
-sheetKinds = uidKinds ++ (gidKinds ++ (setKinds ++ flagKinds))
+unfoldable pub sheet_kinds : List Kind
+sheet_kinds = uid_kinds ++ (gid_kinds ++ (set_kinds ++ flag_kinds))
 
 -- ---- written
 
 -- the values of a sheet's lines: user or group IDs, the capability sets, securebits and no-new-privs
-abbrev pub idValues : Ids → List ℕ
-idValues u = u.real ∷ u.effective ∷ u.saved ∷ u.filesystem ∷ []
+abbrev pub id_values : Ids → List ℕ
+id_values u = u.real ∷ u.effective ∷ u.saved ∷ u.filesystem ∷ []
 
-abbrev pub setValues : Sets → List ℕ
-setValues s = s.permitted ∷ s.inheritable ∷ s.effective ∷ s.bounding ∷ s.ambient ∷ []
+abbrev pub set_values : Sets → List ℕ
+set_values s = s.permitted ∷ s.inheritable ∷ s.effective ∷ s.bounding ∷ s.ambient ∷ []
 
-abbrev pub flagValues : ℕ → Bool → List ℕ
-flagValues securebits nnp = securebits ∷ number nnp ∷ []
+abbrev pub flag_values : ℕ → Bool → List ℕ
+flag_values securebits nnp = securebits ∷ number nnp ∷ []
 
-abbrev pub sheetValues : Credentials → List ℕ
-sheetValues c = idValues c.uids ++ (idValues c.gids ++ (setValues c.sets ++ flagValues c.securebits c.nnp))
+abbrev pub sheet_values : Credentials → List ℕ
+sheet_values c = id_values c.uids ++ (id_values c.gids ++ (set_values c.sets ++ flag_values c.securebits c.nnp))
 
 -- the sheet of credentials
-unfoldable pub sheetText : Credentials → List ℕ
-sheetText c = linesText sheetKinds (sheetValues c)
+unfoldable pub sheet_text : Credentials → List ℕ
+sheet_text c = lines_text sheet_kinds (sheet_values c)
 
 -- ---- read
 
 -- the credentials of a sheet's values
-abbrev pub credentialsOf : List ℕ → Credentials
-credentialsOf vs =
+abbrev pub credentials_of : List ℕ → Credentials
+credentials_of vs =
     record {
       uids = record { real = get_or vs 0 0; effective = get_or vs 1 0; saved = get_or vs 2 0; filesystem = get_or vs 3 0 };
       gids = record { real = get_or vs 4 0; effective = get_or vs 5 0; saved = get_or vs 6 0; filesystem = get_or vs 7 0 };
@@ -78,40 +78,40 @@ credentialsOf vs =
     }
 
 -- a text that begins with a sheet
-unfoldable pub readFront : List ℕ → Read Credentials
-readFront t = mapped credentialsOf (readLines sheetKinds t)
+unfoldable pub read_front : List ℕ → Read Credentials
+read_front t = mapped credentials_of (read_lines sheet_kinds t)
 
 -- text past the sheet is a fault at the next line; then 72 for credentials that are not valid
-abbrev pub wholeSheet : Read Credentials → SheetReading
-wholeSheet (read c []) = cond (valid c) (Sheet c) Invalid
-wholeSheet (read c (b ∷ t)) = Malformed (length sheetKinds + 1)
-wholeSheet (faultAt line) = Malformed line
+abbrev pub whole_sheet : Read Credentials → SheetReading
+whole_sheet (read c []) = cond (valid c) (Sheet c) Invalid
+whole_sheet (read c (b ∷ t)) = Malformed (length sheet_kinds + 1)
+whole_sheet (fault_at line) = Malformed line
 
 -- the sheet reader's answer
-unfoldable pub readSheet : List ℕ → SheetReading
-readSheet t = wholeSheet (readFront t)
+unfoldable pub read_sheet : List ℕ → SheetReading
+read_sheet t = whole_sheet (read_front t)
 
 -- "What comes back": the number of each case, and its line, 0 but for 70
-abbrev pub sheetCode : SheetReading → ℕ
-sheetCode (Sheet c) = 0
-sheetCode (Malformed line) = 70
-sheetCode Invalid = 72
+abbrev pub sheet_code : SheetReading → ℕ
+sheet_code (Sheet c) = 0
+sheet_code (Malformed line) = 70
+sheet_code Invalid = 72
 
-abbrev pub sheetLine : SheetReading → ℕ
-sheetLine (Sheet c) = 0
-sheetLine (Malformed line) = line
-sheetLine Invalid = 0
+abbrev pub sheet_line : SheetReading → ℕ
+sheet_line (Sheet c) = 0
+sheet_line (Malformed line) = line
+sheet_line Invalid = 0
 
 -- ---- the sheet writer
 
 -- its answer in a buffer of some length: 72, then 28, each with 0 bytes; or 0 and the sheet's length
-unfoldable pub sheetAnswer : Credentials → ℕ → Written
-sheetAnswer c room =
+unfoldable pub sheet_answer : Credentials → ℕ → Written
+sheet_answer c room =
     cond (valid c)
-    (cond (leb (length (sheetText c)) room) (record { code = 0; length = length (sheetText c) }) (record { code = 28; length = 0 }))
+    (cond (leb (length (sheet_text c)) room) (record { code = 0; length = length (sheet_text c) }) (record { code = 28; length = 0 }))
     (record { code = 72; length = 0 })
 
 -- the buffer afterwards: the sheet and past it what was there; where it is refused, as it was
-unfoldable pub sheetBuffer : Credentials → List ℕ → List ℕ
-sheetBuffer c old =
-    cond (valid c && leb (length (sheetText c)) (length old)) (sheetText c ++ drop (length (sheetText c)) old) old
+unfoldable pub sheet_buffer : Credentials → List ℕ → List ℕ
+sheet_buffer c old =
+    cond (valid c && leb (length (sheet_text c)) (length old)) (sheet_text c ++ drop (length (sheet_text c)) old) old

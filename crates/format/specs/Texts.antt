@@ -4,8 +4,8 @@ use Rattle.std.specs.Prelude.{ℕ, zero, suc, ◌+◌, ◌*◌, ◌≡◌, false
 use Rattle.credentials.specs.declared.Credentials.{Credentials}
 use Rattle.format.specs.declared.SheetReading.TheVariants.{Malformed, Invalid}
 use Rattle.format.specs.Line.{bytes}
-use Rattle.format.specs.Sheet.{readSheet, sheetAnswer, sheetBuffer}
-use Rattle.format.specs.Report.{report, malformed, invalid, verdict, outcome, buffer, cNumber}
+use Rattle.format.specs.Sheet.{read_sheet, sheet_answer, sheet_buffer}
+use Rattle.format.specs.Report.{report, malformed, invalid, verdict, outcome, buffer, c_number}
 
 -- ---- parts of the texts
 
@@ -55,18 +55,18 @@ sevens n = replicate n 7
 
 -- the C interface's number for a plan's text and a buffer of some length
 abbrev pub number_of : List ℕ → ℕ → ℕ
-number_of text room = cNumber (outcome (verdict text) room)
+number_of text room = c_number (outcome (verdict text) room)
 
 pub record TextsHold : Type 0 where
   -- the whole report of case 2, as the paper prints it
-  pub case-2 : verdict (start ++ plain)
+  pub case_2 : verdict (start ++ plain)
       ≡ report
       (bytes "code=0\nvalue=0000000000000000\ncause=0\n"
       ++ bytes "ruid=1000\neuid=1000\nsuid=1000\nfsuid=1000\nrgid=1000\negid=1000\nsgid=1000\nfsgid=1000\n"
       ++ bytes "permitted=0000000000002000\ninheritable=0000000000002000\neffective=0000000000002000\n"
       ++ bytes "bounding=000001ffffffffff\nambient=0000000000002000\nsecurebits=00\nnnp=0\n")
   -- a refused step does not stop the plan: call 99 is none; then a launch under case 3's attribute
-  pub refused-step : verdict
+  pub refused_step : verdict
       (start
       ++ bytes "call=99\na=0000000000000000\nb=0000000000000000\nc=0000000000000000\nattr=\n"
       ++ launch ++ bytes "attr=0100000200040000000000000000000000000000\n")
@@ -76,33 +76,33 @@ pub record TextsHold : Type 0 where
       ++ bytes "permitted=0000000000000400\ninheritable=0000000000002000\neffective=0000000000000400\n"
       ++ bytes "bounding=000001ffffffffff\nambient=0000000000000000\nsecurebits=00\nnnp=0\n")
   -- a refusal by the rules has a cause: setuid to another ID than the thread's own
-  pub refused-with-a-cause : verdict (start ++ bytes "call=15\na=0000000000000000\nb=0000000000000000\nc=0000000000000000\nattr=\n")
+  pub refused_with_a_cause : verdict (start ++ bytes "call=15\na=0000000000000000\nb=0000000000000000\nc=0000000000000000\nattr=\n")
       ≡ report (bytes "code=1\nvalue=0000000000000000\ncause=10\n" ++ start)
   -- empty text gives line 1
   pub empty : verdict [] ≡ malformed 1
   -- a 257th step gives line 1296
-  pub step-257 : verdict (start ++ (times 256 plain ++ plain)) ≡ malformed 1296
+  pub step_257 : verdict (start ++ (times 256 plain ++ plain)) ≡ malformed 1296
   -- no leading zeros
-  pub leading-zero : verdict (bytes "ruid=0\neuid=01\n") ≡ malformed 2
+  pub leading_zero : verdict (bytes "ruid=0\neuid=01\n") ≡ malformed 2
   -- the group IDs follow the user IDs: a sheet without them is at fault there
-  pub group-ids-due : verdict (bytes "ruid=0\neuid=0\nsuid=0\nfsuid=0\npermitted=0000000000000000\n") ≡ malformed 5
+  pub group_ids_due : verdict (bytes "ruid=0\neuid=0\nsuid=0\nfsuid=0\npermitted=0000000000000000\n") ≡ malformed 5
   -- hex letters are lower case
-  pub upper-case : verdict (bytes "ruid=0\neuid=0\nsuid=0\nfsuid=0\nrgid=0\negid=0\nsgid=0\nfsgid=0\npermitted=000000000000000A\n") ≡ malformed 9
+  pub upper_case : verdict (bytes "ruid=0\neuid=0\nsuid=0\nfsuid=0\nrgid=0\negid=0\nsgid=0\nfsgid=0\npermitted=000000000000000A\n") ≡ malformed 9
   -- an even number of attribute digits
-  pub odd-digits : verdict (start ++ launch ++ bytes "attr=0\n") ≡ malformed 20
+  pub odd_digits : verdict (start ++ launch ++ bytes "attr=0\n") ≡ malformed 20
   -- a decimal number is up to 4294967295, and an ID is valid up to 4294967294
-  pub above-decimal : verdict (bytes "ruid=4294967296\n") ≡ malformed 1
-  pub above-valid : verdict no_id ≡ invalid
+  pub above_decimal : verdict (bytes "ruid=4294967296\n") ≡ malformed 1
+  pub above_valid : verdict no_id ≡ invalid
   -- 70 comes before 72, wherever in the text the fault is
-  pub fault-first : verdict (no_id ++ bytes "call=") ≡ malformed 16
+  pub fault_first : verdict (no_id ++ bytes "call=") ≡ malformed 16
   -- the sheet reader: text past the sheet is a fault at the next line, and that comes before 72
-  pub past-the-sheet : readSheet (no_id ++ bytes "\n") ≡ Malformed 16
-  pub invalid-sheet : readSheet no_id ≡ Invalid
+  pub past_the_sheet : read_sheet (no_id ++ bytes "\n") ≡ Malformed 16
+  pub invalid_sheet : read_sheet no_id ≡ Invalid
   -- the sheet writer: 72 comes before 28, and bytes past the sheet stay
-  pub invalid-first : sheetAnswer (held 4294967295) 0 ≡ record { code = 72; length = 0 }
-  pub written-sheet : sheetBuffer (held 1000) (sevens 238) ≡ start ++ (7 ∷ 7 ∷ [])
+  pub invalid_first : sheet_answer (held 4294967295) 0 ≡ record { code = 72; length = 0 }
+  pub written_sheet : sheet_buffer (held 1000) (sevens 238) ≡ start ++ (7 ∷ 7 ∷ [])
   -- the plan runner: bytes past the report stay
-  pub written-report : buffer (verdict start) (sevens 238) ≡ start ++ (7 ∷ 7 ∷ [])
+  pub written_report : buffer (verdict start) (sevens 238) ≡ start ++ (7 ∷ 7 ∷ [])
   -- the C interface's number, code times 4294967296 plus line or length: case 2 and its 274 bytes; a byte less room, 28; a fault at line 16; 72
   pub numbers : number_of (start ++ plain) 274 ∷ number_of (start ++ plain) 273 ∷ number_of (start ++ bytes "\n") 274 ∷ number_of no_id 274 ∷ []
       ≡ 274 ∷ (28 * 4294967296) ∷ (70 * 4294967296 + 16) ∷ (72 * 4294967296) ∷ []

@@ -4,31 +4,31 @@ use mathlib.Core.Path.{◌≡◌, refl, sym, ap, ◌∙◌}
 use mathlib.Core.List.{List, [], ◌∷◌}
 use Prim.Native.Nat.{ℕ, zero, suc, ◌+◌, ◌/◌, ◌%◌}
 use lib.ListN.{length, length-append}
-use Rattle.format.specs.Line.{Form, decimal, hex, Kind, valueText, lineText, linesText}
-use Rattle.format.proofs.Lengths.{length-hex, length-keyed}
-use Rattle.hex_tables.specs.Tables.{digitBy, hexTextBy, valueTextBy, lineTextBy, linesTextBy}
+use Rattle.format.specs.Line.{Form, decimal, hex, Kind, value_text, line_text, lines_text}
+use Rattle.format.proofs.Lengths.{length_hex, length_keyed}
+use Rattle.hex_tables.specs.Tables.{digit_by, hex_text_by, value_text_by, line_text_by, lines_text_by}
 
 module _ (table : List ℕ) where
-  pub length-hex-by : (n v : ℕ) → length (hexTextBy table n v) ≡ n
-  unfolding hexTextBy
-  length-hex-by zero v = refl
-  length-hex-by (suc n) v =
-      length-append (hexTextBy table n (v / 16)) (digitBy table (v % 16) ∷ []) ∙ omega (arith, length-hex-by n (v / 16))
+  pub length_hex_by : (n v : ℕ) → length (hex_text_by table n v) ≡ n
+  unfolding hex_text_by
+  length_hex_by zero v = refl
+  length_hex_by (suc n) v =
+      length-append (hex_text_by table n (v / 16)) (digit_by table (v % 16) ∷ []) ∙ omega (arith, length_hex_by n (v / 16))
 
-  length-value : (form : Form) (v : ℕ) → length (valueTextBy table form v) ≡ length (valueText form v)
-  length-value (decimal largest) v = refl
-  length-value (hex n) v = length-hex-by n v ∙ sym (length-hex n v)
+  length_value : (form : Form) (v : ℕ) → length (value_text_by table form v) ≡ length (value_text form v)
+  length_value (decimal largest) v = refl
+  length_value (hex n) v = length_hex_by n v ∙ sym (length_hex n v)
 
-  length-line : (k : Kind) (v : ℕ) → length (lineTextBy table k v) ≡ length (lineText k v)
-  length-line k v =
-      length-keyed k.key (valueTextBy table k.form v)
-      ∙ ap (λ (n : ℕ). length k.key + n + 1) (length-value k.form v)
-      ∙ sym (length-keyed k.key (valueText k.form v))
+  length_line : (k : Kind) (v : ℕ) → length (line_text_by table k v) ≡ length (line_text k v)
+  length_line k v =
+      length_keyed k.key (value_text_by table k.form v)
+      ∙ ap (λ (n : ℕ). length k.key + n + 1) (length_value k.form v)
+      ∙ sym (length_keyed k.key (value_text k.form v))
 
-  pub length-lines : (ks : List Kind) (vs : List ℕ) → length (linesTextBy table ks vs) ≡ length (linesText ks vs)
-  unfolding linesTextBy linesText
-  length-lines [] vs = refl
-  length-lines (k ∷ ks) [] = refl
-  length-lines (k ∷ ks) (v ∷ vs) =
-      length-append (lineTextBy table k v) (linesTextBy table ks vs)
-      ∙ rw (length-line k v, length-lines ks vs) (sym (length-append (lineText k v) (linesText ks vs)))
+  pub length_lines : (ks : List Kind) (vs : List ℕ) → length (lines_text_by table ks vs) ≡ length (lines_text ks vs)
+  unfolding lines_text_by lines_text
+  length_lines [] vs = refl
+  length_lines (k ∷ ks) [] = refl
+  length_lines (k ∷ ks) (v ∷ vs) =
+      length-append (line_text_by table k v) (lines_text_by table ks vs)
+      ∙ rw (length_line k v, length_lines ks vs) (sym (length-append (line_text k v) (lines_text ks vs)))

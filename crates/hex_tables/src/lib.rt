@@ -4,7 +4,7 @@
 // stack anew at each use. What such functions do with whatever table they are lent is defined here too, and with these tables that is the format. The
 // crate assumes nothing.
 ghost use Rattle.std.specs.Prelude.{◌≡◌};
-ghost use Rattle.hex_tables.specs.Tables.{readingTable, writingTable};
+ghost use Rattle.hex_tables.specs.Tables.{reading_table, writing_table};
 
 // What each byte is as a hex digit: 0 to 15 at `0` to `9` and `a` to `f`, and 16 at every other, which is no digit.
 const READING: [u8; 256] = *b"\
@@ -31,14 +31,14 @@ const WRITING: [u8; 16] = *b"0123456789abcdef";
 
 // The table for reading, with an entry for each byte.
 pub fn reading_table() -> [u8; 256]
-    ensures { result ≡ readingTable }
+    ensures { result ≡ reading_table }
 {
     READING
 }
 
 // The table for writing, with an entry for each number below 16.
 pub fn writing_table() -> [u8; 16]
-    ensures { result ≡ writingTable }
+    ensures { result ≡ writing_table }
 {
     WRITING
 }

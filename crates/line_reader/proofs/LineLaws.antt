@@ -1,12 +1,12 @@
 -- Laws of reading at a position, for the readers' loops and answers. Assumes nothing.
 use Rattle.std.proofs.Common.{◌≡◌, ℕ, zero, suc, ◌+◌, ◌-◌, ◌*◌, ◌<◌, ◌≤◌, Bool, true, false, cond, ◌&&◌, eqb, ltb, leb, List, [], ◌∷◌, length, get_or, drop, refl, ap, ◌∙◌, le_of_suc-le-suc, not-suc-le-zero, add-one, arith, length-drop, drop_of_length-le, get_or-drop, drop-cons, drop-drop}
-use Rattle.format.specs.Line.{Read, read, fault, decimalDigit, newline, readHex, readDigits, readDecimal, starts_with, afterKey}
-use Rattle.hex_tables.specs.Tables.{hexDigitBy, readHexBy}
+use Rattle.format.specs.Line.{Read, read, fault, decimal_digit, newline, read_hex, read_digits, read_decimal, starts_with, after_key}
+use Rattle.hex_tables.specs.Tables.{hex_digit_by, read_hex_by}
 use Rattle.line_reader.specs.declared.lines.Line.TheVariants.{Is, Fault}
 use Rattle.line_reader.specs.declared.lines.Digits.{Digits}
 use Rattle.line_reader.specs.declared.lines.Digits.TheVariants.{Make, No}
-use Rattle.line_reader.specs.Inside.{hexOf, placed, line_at}
-use Rattle.format.proofs.Keys.{key-there, key-missing}
+use Rattle.line_reader.specs.Inside.{hex_of, placed, line_at}
+use Rattle.format.proofs.Keys.{key_there, key_missing}
 
 cond_same : {A : Type 0} (t : Bool) (x : A) → cond t x x ≡ x
 cond_same true x = refl
@@ -19,12 +19,12 @@ position text i h = omega (arith, length-drop i text)
 -- ---- the key
 
 -- a text too short for a key and m bytes more, without which there is no value
-pub key-short : {A : Type 0} (m : ℕ) (key : List ℕ) (f : List ℕ → Read A) (t : List ℕ) → ((u : List ℕ) → length u < m → f u ≡ fault)
-    → length t < length key + m → afterKey key f t ≡ fault
-unfolding afterKey
-key-short m [] f t g h = g t (omega arith)
-key-short m (k ∷ ks) f [] g h = refl
-key-short m (k ∷ ks) f (b ∷ t) g h = rw (key-short m ks f t g (omega arith)) (cond_same (eqb b k) fault)
+pub key_short : {A : Type 0} (m : ℕ) (key : List ℕ) (f : List ℕ → Read A) (t : List ℕ) → ((u : List ℕ) → length u < m → f u ≡ fault)
+    → length t < length key + m → after_key key f t ≡ fault
+unfolding after_key
+key_short m [] f t g h = g t (omega arith)
+key_short m (k ∷ ks) f [] g h = refl
+key_short m (k ∷ ks) f (b ∷ t) g h = rw (key_short m ks f t g (omega arith)) (cond_same (eqb b k) fault)
 
 -- ---- hex digits by a table
 
@@ -33,110 +33,110 @@ abbrev made : Digits → (ℕ → Read ℕ) → Read ℕ
 made (Make v) f = f v
 made No f = fault
 
-made-if : (s : Bool) (x : Digits) (r : Read ℕ) (f : ℕ → Read ℕ) → r ≡ made x f → cond s r fault ≡ made (cond s x No) f
-made-if true x r f h = h
-made-if false x r f h = refl
+made_if : (s : Bool) (x : Digits) (r : Read ℕ) (f : ℕ → Read ℕ) → r ≡ made x f → cond s r fault ≡ made (cond s x No) f
+made_if true x r f h = h
+made_if false x r f h = refl
 
 module _ (table : List ℕ) where
-  pub hex-step : (n m v i j : ℕ) (text : List ℕ) → n ≡ m + 1 → j ≡ i + 1 → i < length text
-      → hexOf table n v (drop i text) ≡ cond (ltb (hexDigitBy table (get_or text i 0)) 16) (hexOf table m (v * 16 + hexDigitBy table (get_or text i 0)) (drop j text)) No
-  unfolding hexOf
-  hex-step n m v i j text h e g = rw (drop-cons text i 0 g, e, h, add-one i, add-one m)
+  pub hex_step : (n m v i j : ℕ) (text : List ℕ) → n ≡ m + 1 → j ≡ i + 1 → i < length text
+      → hex_of table n v (drop i text) ≡ cond (ltb (hex_digit_by table (get_or text i 0)) 16) (hex_of table m (v * 16 + hex_digit_by table (get_or text i 0)) (drop j text)) No
+  unfolding hex_of
+  hex_step n m v i j text h e g = rw (drop-cons text i 0 g, e, h, add-one i, add-one m)
 
-  pub hex-end : (n v : ℕ) (t : List ℕ) → n ≡ 0 → hexOf table n v t ≡ Make v
-  unfolding hexOf
-  hex-end n v t h = rw h
+  pub hex_end : (n v : ℕ) (t : List ℕ) → n ≡ 0 → hex_of table n v t ≡ Make v
+  unfolding hex_of
+  hex_end n v t h = rw h
 
-  hex-made : (n v : ℕ) (t : List ℕ) → n < length t
-      → readHexBy table n v t ≡ made (hexOf table n v t) (λ w. cond (eqb (get_or t n 0) newline) (read w (drop (suc n) t)) fault)
-  unfolding readHexBy readHex hexOf
-  hex-made n v [] h = absurd (not-suc-le-zero h)
-  hex-made zero v (b ∷ t) h = refl
-  hex-made (suc n) v (b ∷ t) h =
-      let d = hexDigitBy table b in
-      made-if (ltb d 16) (hexOf table n (v * 16 + d) t) (readHexBy table n (v * 16 + d) t)
+  hex_made : (n v : ℕ) (t : List ℕ) → n < length t
+      → read_hex_by table n v t ≡ made (hex_of table n v t) (λ w. cond (eqb (get_or t n 0) newline) (read w (drop (suc n) t)) fault)
+  unfolding read_hex_by read_hex hex_of
+  hex_made n v [] h = absurd (not-suc-le-zero h)
+  hex_made zero v (b ∷ t) h = refl
+  hex_made (suc n) v (b ∷ t) h =
+      let d = hex_digit_by table b in
+      made_if (ltb d 16) (hex_of table n (v * 16 + d) t) (read_hex_by table n (v * 16 + d) t)
       (λ w. cond (eqb (get_or t n 0) newline) (read w (drop (suc n) t)) fault)
-      (hex-made n (v * 16 + d) t (le_of_suc-le-suc h))
+      (hex_made n (v * 16 + d) t (le_of_suc-le-suc h))
 
-  hex-short : (n v : ℕ) (t : List ℕ) → length t < n + 1 → readHexBy table n v t ≡ fault
-  unfolding readHexBy readHex
-  hex-short zero v [] h = refl
-  hex-short zero v (b ∷ t) h = absurd (omega arith)
-  hex-short (suc n) v [] h = refl
-  hex-short (suc n) v (b ∷ t) h = rw (hex-short n (v * 16 + hexDigitBy table b) t (omega arith)) (cond_same (ltb (hexDigitBy table b) 16) fault)
+  hex_short : (n v : ℕ) (t : List ℕ) → length t < n + 1 → read_hex_by table n v t ≡ fault
+  unfolding read_hex_by read_hex
+  hex_short zero v [] h = refl
+  hex_short zero v (b ∷ t) h = absurd (omega arith)
+  hex_short (suc n) v [] h = refl
+  hex_short (suc n) v (b ∷ t) h = rw (hex_short n (v * 16 + hex_digit_by table b) t (omega arith)) (cond_same (ltb (hex_digit_by table b) 16) fault)
 
 -- ---- a line at a position
 
 module _ (key : List ℕ) (value : List ℕ → Read ℕ) (text : List ℕ) (at : ℕ) where
-  pub line-missing : starts_with key (drop at text) ≡ false → line_at key value text at ≡ Fault
+  pub line_missing : starts_with key (drop at text) ≡ false → line_at key value text at ≡ Fault
   unfolding line_at
-  line-missing h = rw (key-missing key value (drop at text) h)
+  line_missing h = rw (key_missing key value (drop at text) h)
 
-  pub line-there : starts_with key (drop at text) ≡ true → line_at key value text at ≡ placed text (value (drop (at + length key) text))
+  pub line_there : starts_with key (drop at text) ≡ true → line_at key value text at ≡ placed text (value (drop (at + length key) text))
   unfolding line_at
-  line-there h =
-      ap (placed text) (key-there key value (drop at text) h ∙ ap value (drop-drop (length key) at text))
+  line_there h =
+      ap (placed text) (key_there key value (drop at text) h ∙ ap value (drop-drop (length key) at text))
 
 module _ (table key : List ℕ) (n : ℕ) (text : List ℕ) (at : ℕ) where
   -- too short for the key, n digits and a newline
-  pub hex-line-short : length text < at + (length key + n + 1) → line_at key (readHexBy table n 0) text at ≡ Fault
+  pub hex_line_short : length text < at + (length key + n + 1) → line_at key (read_hex_by table n 0) text at ≡ Fault
   unfolding line_at
-  hex-line-short h =
-      rw (key-short (n + 1) key (readHexBy table n 0) (drop at text) (λ u g. hex-short table n 0 u g) (omega (arith, length-drop at text)))
+  hex_line_short h =
+      rw (key_short (n + 1) key (read_hex_by table n 0) (drop at text) (λ u g. hex_short table n 0 u g) (omega (arith, length-drop at text)))
 
   line_made : starts_with key (drop at text) ≡ true → at + length key + n < length text
-      → line_at key (readHexBy table n 0) text at
-      ≡ placed text (made (hexOf table n 0 (drop (at + length key) text)) (λ w. cond (eqb (get_or text (at + length key + n) 0) newline) (read w (drop (at + length key + n + 1) text)) fault))
+      → line_at key (read_hex_by table n 0) text at
+      ≡ placed text (made (hex_of table n 0 (drop (at + length key) text)) (λ w. cond (eqb (get_or text (at + length key + n) 0) newline) (read w (drop (at + length key + n + 1) text)) fault))
   line_made h g =
       let p = at + length key in
       let e : get_or (drop p text) n 0 ≡ get_or text (p + n) 0 = get_or-drop p text n 0 in
       let s : p + suc n ≡ p + n + 1 = omega arith in
       let f : drop (suc n) (drop p text) ≡ drop (p + n + 1) text = drop-drop (suc n) p text ∙ ap (λ (k : ℕ). drop k text) s in
-      line-there key (readHexBy table n 0) text at h
-      ∙ ap (placed text) (hex-made table n 0 (drop p text) (omega (arith, length-drop p text)))
-      ∙ ap (λ (k : ℕ). placed text (made (hexOf table n 0 (drop p text)) (λ w. cond (eqb k newline) (read w (drop (suc n) (drop p text))) fault))) e
-      ∙ ap (λ (u : List ℕ). placed text (made (hexOf table n 0 (drop p text)) (λ w. cond (eqb (get_or text (p + n) 0) newline) (read w u) fault))) f
+      line_there key (read_hex_by table n 0) text at h
+      ∙ ap (placed text) (hex_made table n 0 (drop p text) (omega (arith, length-drop p text)))
+      ∙ ap (λ (k : ℕ). placed text (made (hex_of table n 0 (drop p text)) (λ w. cond (eqb k newline) (read w (drop (suc n) (drop p text))) fault))) e
+      ∙ ap (λ (u : List ℕ). placed text (made (hex_of table n 0 (drop p text)) (λ w. cond (eqb (get_or text (p + n) 0) newline) (read w u) fault))) f
 
   -- a digit is none
-  pub hex-line-no : starts_with key (drop at text) ≡ true → at + length key + n < length text → hexOf table n 0 (drop (at + length key) text) ≡ No
-      → line_at key (readHexBy table n 0) text at ≡ Fault
-  hex-line-no h g e = line_made h g ∙ rw e
+  pub hex_line_no : starts_with key (drop at text) ≡ true → at + length key + n < length text → hex_of table n 0 (drop (at + length key) text) ≡ No
+      → line_at key (read_hex_by table n 0) text at ≡ Fault
+  hex_line_no h g e = line_made h g ∙ rw e
 
   -- the digits do not end in a newline
-  pub hex-line-longer : (v : ℕ) → starts_with key (drop at text) ≡ true → at + length key + n < length text → hexOf table n 0 (drop (at + length key) text) ≡ Make v
-      → eqb (get_or text (at + length key + n) 0) newline ≡ false → line_at key (readHexBy table n 0) text at ≡ Fault
-  hex-line-longer v h g e b = line_made h g ∙ rw (e, b)
+  pub hex_line_longer : (v : ℕ) → starts_with key (drop at text) ≡ true → at + length key + n < length text → hex_of table n 0 (drop (at + length key) text) ≡ Make v
+      → eqb (get_or text (at + length key + n) 0) newline ≡ false → line_at key (read_hex_by table n 0) text at ≡ Fault
+  hex_line_longer v h g e b = line_made h g ∙ rw (e, b)
 
-  pub hex-line-is : (v : ℕ) → starts_with key (drop at text) ≡ true → at + length key + n < length text → hexOf table n 0 (drop (at + length key) text) ≡ Make v
-      → eqb (get_or text (at + length key + n) 0) newline ≡ true → line_at key (readHexBy table n 0) text at ≡ Is v (at + length key + n + 1)
-  hex-line-is v h g e b = line_made h g ∙ rw (e, b) (ap (Is v) (position text (at + length key + n + 1) (omega arith)))
+  pub hex_line_is : (v : ℕ) → starts_with key (drop at text) ≡ true → at + length key + n < length text → hex_of table n 0 (drop (at + length key) text) ≡ Make v
+      → eqb (get_or text (at + length key + n) 0) newline ≡ true → line_at key (read_hex_by table n 0) text at ≡ Is v (at + length key + n + 1)
+  hex_line_is v h g e b = line_made h g ∙ rw (e, b) (ap (Is v) (position text (at + length key + n + 1) (omega arith)))
 
 -- ---- decimal numbers
 
-decimal-none : (m : ℕ) (t : List ℕ) → length t < 1 → readDecimal m t ≡ fault
-unfolding readDecimal
-decimal-none m [] h = refl
-decimal-none m (b ∷ t) h = absurd (omega arith)
+decimal_none : (m : ℕ) (t : List ℕ) → length t < 1 → read_decimal m t ≡ fault
+unfolding read_decimal
+decimal_none m [] h = refl
+decimal_none m (b ∷ t) h = absurd (omega arith)
 
 -- too short for the key and a digit
-pub decimal-line-short : (key : List ℕ) (m : ℕ) (text : List ℕ) (at : ℕ) → length text < at + (length key + 1) → line_at key (readDecimal m) text at ≡ Fault
+pub decimal_line_short : (key : List ℕ) (m : ℕ) (text : List ℕ) (at : ℕ) → length text < at + (length key + 1) → line_at key (read_decimal m) text at ≡ Fault
 unfolding line_at
-decimal-line-short key m text at h =
-    rw (key-short 1 key (readDecimal m) (drop at text) (decimal-none m) (omega (arith, length-drop at text)))
+decimal_line_short key m text at h =
+    rw (key_short 1 key (read_decimal m) (drop at text) (decimal_none m) (omega (arith, length-drop at text)))
 
 module _ (m i : ℕ) (text : List ℕ) (h : i < length text) where
-  pub decimal_step : readDecimal m (drop i text)
-      ≡ cond (ltb (decimalDigit (get_or text i 0)) 10 && leb (decimalDigit (get_or text i 0)) m) (readDigits m (decimalDigit (get_or text i 0)) (drop (i + 1) text)) fault
-  unfolding readDecimal
+  pub decimal_step : read_decimal m (drop i text)
+      ≡ cond (ltb (decimal_digit (get_or text i 0)) 10 && leb (decimal_digit (get_or text i 0)) m) (read_digits m (decimal_digit (get_or text i 0)) (drop (i + 1) text)) fault
+  unfolding read_decimal
   decimal_step = rw (drop-cons text i 0 h, add-one i)
 
-  pub digits_step : (v : ℕ) → readDigits m v (drop i text)
+  pub digits_step : (v : ℕ) → read_digits m v (drop i text)
       ≡ cond (eqb (get_or text i 0) newline) (read v (drop (i + 1) text))
       (cond (eqb v 0) fault
-      (cond (ltb (decimalDigit (get_or text i 0)) 10 && leb (v * 10 + decimalDigit (get_or text i 0)) m) (readDigits m (v * 10 + decimalDigit (get_or text i 0)) (drop (i + 1) text)) fault))
-  unfolding readDigits
+      (cond (ltb (decimal_digit (get_or text i 0)) 10 && leb (v * 10 + decimal_digit (get_or text i 0)) m) (read_digits m (v * 10 + decimal_digit (get_or text i 0)) (drop (i + 1) text)) fault))
+  unfolding read_digits
   digits_step v = rw (drop-cons text i 0 h, add-one i)
 
-pub digits-end : (m v : ℕ) (text : List ℕ) (i : ℕ) → length text ≤ i → readDigits m v (drop i text) ≡ fault
-unfolding readDigits
-digits-end m v text i h = rw (drop_of_length-le text h)
+pub digits_end : (m v : ℕ) (text : List ℕ) (i : ℕ) → length text ≤ i → read_digits m v (drop i text) ≡ fault
+unfolding read_digits
+digits_end m v text i h = rw (drop_of_length-le text h)

@@ -1,7 +1,7 @@
 // One digit: a hex digit by a table, a decimal one by tests.
 ghost use Rattle.std.specs.Prelude.{◌≡◌};
-ghost use Rattle.format.specs.Line.{decimalDigit};
-ghost use Rattle.hex_tables.specs.Tables.{hexDigitBy};
+ghost use Rattle.format.specs.Line.{decimal_digit};
+ghost use Rattle.hex_tables.specs.Tables.{hex_digit_by};
 
 use codes::wide;
 
@@ -12,7 +12,7 @@ const PAST_NINE: u8 = 58;
 
 // What b is as a hex digit by the table: above 15 it is none.
 pub(crate) fn hex_digit(table: &[u8; 256], b: u8) -> u64
-    ensures { result ≡ hexDigitBy table.now b }
+    ensures { result ≡ hex_digit_by table.now b }
 {
     let i = b as usize;
     wide(table[i])
@@ -20,7 +20,7 @@ pub(crate) fn hex_digit(table: &[u8; 256], b: u8) -> u64
 
 // The number of b as a decimal digit, or 10 where it is none.
 pub(crate) fn decimal_digit(b: u8) -> u64
-    ensures { result ≡ decimalDigit b }
+    ensures { result ≡ decimal_digit b }
 {
     if b < ZERO {
         return 10;

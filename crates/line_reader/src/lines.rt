@@ -1,8 +1,8 @@
 // Readers of a line at a position, one to a form of value. The range is tested once a line, the key is compared, then the value is read.
 ghost use Rattle.std.specs.Prelude.{◌≡◌, ◌+◌, ◌-◌, ◌<◌, ◌≤◌, [], length, drop};
-ghost use Rattle.format.specs.Line.{readDecimal, readDigits, starts_with};
-ghost use Rattle.hex_tables.specs.Tables.{readHexBy, readPairsBy};
-ghost use Rattle.line_reader.specs.Inside.{hexOf, line_at, placed, bytes_at, placedBytes, noBytes};
+ghost use Rattle.format.specs.Line.{read_decimal, read_digits, starts_with};
+ghost use Rattle.hex_tables.specs.Tables.{read_hex_by, read_pairs_by};
+ghost use Rattle.line_reader.specs.Inside.{hex_of, line_at, placed, bytes_at, placed_bytes, no_bytes};
 
 use crate::digits::{decimal_digit, hex_digit};
 use crate::{MOST_ATTRIBUTE, NEWLINE};
@@ -50,7 +50,7 @@ fn starts_with(text: &[u8], at: usize, key: &[u8]) -> bool
 // The number that the n hex digits of text at the position at make by the table.
 fn hex_at(text: &[u8], at: usize, n: usize, table: &[u8; 256]) -> Digits
     requires { (n ≤ 16) × (at + n ≤ length text.now) }
-    ensures { result ≡ hexOf table.now n 0 (drop at text.now) }
+    ensures { result ≡ hex_of table.now n 0 (drop at text.now) }
 {
     let mut v: u64 = 0;
     let mut k: usize = 0;
@@ -68,7 +68,7 @@ fn hex_at(text: &[u8], at: usize, n: usize, table: &[u8; 256]) -> Digits
 // The line of key and n hex digits by the table at the position at of text.
 pub(crate) fn hex_line(text: &[u8], at: usize, key: &[u8], n: usize, table: &[u8; 256]) -> Line
     requires { n ≤ 16 }
-    ensures { result ≡ line_at key.now (readHexBy table.now n 0) text.now at }
+    ensures { result ≡ line_at key.now (read_hex_by table.now n 0) text.now at }
 {
     let size = key.len() + n + 1;
     let len = text.len();
@@ -94,7 +94,7 @@ pub(crate) fn hex_line(text: &[u8], at: usize, key: &[u8], n: usize, table: &[u8
 // The digits after first, and the newline.
 fn digits_at(text: &[u8], at: usize, largest: u32, first: u64) -> Line
     requires { first ≤ largest }
-    ensures { result ≡ placed text.now (readDigits largest first (drop at text.now)) }
+    ensures { result ≡ placed text.now (read_digits largest first (drop at text.now)) }
 {
     let mut i = at;
     let mut v = first;
@@ -122,7 +122,7 @@ fn digits_at(text: &[u8], at: usize, largest: u32, first: u64) -> Line
 
 // The line of key and a decimal number up to largest at the position at of text.
 pub(crate) fn decimal_line(text: &[u8], at: usize, key: &[u8], largest: u32) -> Line
-    ensures { result ≡ line_at key.now (readDecimal largest) text.now at }
+    ensures { result ≡ line_at key.now (read_decimal largest) text.now at }
 {
     let size = key.len() + 1;
     let len = text.len();
@@ -148,7 +148,7 @@ pub(crate) fn decimal_line(text: &[u8], at: usize, key: &[u8], largest: u32) -> 
 
 // What is answered where there is no attribute's line.
 fn no_bytes() -> Bytes
-    ensures { result ≡ noBytes }
+    ensures { result ≡ no_bytes }
 {
     Bytes {
         found: false,
@@ -160,7 +160,7 @@ fn no_bytes() -> Bytes
 
 // The bytes of two hex digits each, by the table, from the position start on, and the newline.
 fn pairs_at(text: &[u8], start: usize, table: &[u8; 256]) -> Bytes
-    ensures { result ≡ placedBytes text.now (readPairsBy table.now 24 [] (drop start text.now)) }
+    ensures { result ≡ placed_bytes text.now (read_pairs_by table.now 24 [] (drop start text.now)) }
 {
     let mut bytes = [0u8; 24];
     let mut i = start;
@@ -199,7 +199,7 @@ fn pairs_at(text: &[u8], start: usize, table: &[u8; 256]) -> Bytes
 
 // The line of key and up to 24 bytes, two hex digits each by the table, at the position at of text.
 pub(crate) fn bytes_line(text: &[u8], at: usize, key: &[u8], table: &[u8; 256]) -> Bytes
-    ensures { result ≡ bytes_at key.now (readPairsBy table.now 24 []) text.now at }
+    ensures { result ≡ bytes_at key.now (read_pairs_by table.now 24 []) text.now at }
 {
     let size = key.len();
     let len = text.len();

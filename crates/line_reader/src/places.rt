@@ -1,7 +1,7 @@
 // The line at a place: its value and the place past it. After a fault nothing is read.
 ghost use Rattle.std.specs.Prelude.{◌≡◌};
 ghost use Rattle.format.specs.Line.{decimal, hex};
-ghost use Rattle.line_reader.specs.Positions.{number_at, numberBy, attributeBy, noAttribute, atFault, pastLine};
+ghost use Rattle.line_reader.specs.Positions.{number_at, number_by, attribute_by, no_attribute, at_fault, past_line};
 ghost use Rattle.line_reader.specs.Inside.{onward};
 
 use crate::lines::{Line, bytes_line, decimal_line, hex_line};
@@ -9,7 +9,7 @@ use crate::{Attribute, Number, Place};
 
 // The line of key and 16 hex digits by the table at a place of text.
 pub fn read_hex16(text: &[u8], place: Place, key: &[u8], table: &[u8; 256]) -> Number
-    ensures { result ≡ numberBy table.now key.now (hex 16) text.now place }
+    ensures { result ≡ number_by table.now key.now (hex 16) text.now place }
 {
     if place.fault {
         return Number { value: 0, place };
@@ -19,7 +19,7 @@ pub fn read_hex16(text: &[u8], place: Place, key: &[u8], table: &[u8; 256]) -> N
 
 // The line of key and 2 hex digits by the table at a place of text.
 pub fn read_hex2(text: &[u8], place: Place, key: &[u8], table: &[u8; 256]) -> Number
-    ensures { result ≡ numberBy table.now key.now (hex 2) text.now place }
+    ensures { result ≡ number_by table.now key.now (hex 2) text.now place }
 {
     if place.fault {
         return Number { value: 0, place };
@@ -39,7 +39,7 @@ pub fn read_decimal(text: &[u8], place: Place, key: &[u8], largest: u32) -> Numb
 
 // The line of key and up to 24 bytes, two hex digits each by the table, at a place of text.
 pub fn read_attribute(text: &[u8], place: Place, key: &[u8], table: &[u8; 256]) -> Attribute
-    ensures { result ≡ attributeBy table.now key.now text.now place }
+    ensures { result ≡ attribute_by table.now key.now text.now place }
 {
     if place.fault {
         return no_attribute(place);
@@ -74,7 +74,7 @@ fn onward(place: Place, line: Line) -> Number
 
 // The place past the line at place, which ends at the position at.
 fn past_line(place: Place, at: usize) -> Place
-    ensures { result ≡ pastLine place at }
+    ensures { result ≡ past_line place at }
 {
     Place {
         at,
@@ -85,7 +85,7 @@ fn past_line(place: Place, at: usize) -> Place
 
 // The line at place is at fault.
 fn at_fault(place: Place) -> Place
-    ensures { result ≡ atFault place }
+    ensures { result ≡ at_fault place }
 {
     let mut next = place;
     next.lines = std::num::wrapping_add_u32(place.lines, 1);
@@ -95,7 +95,7 @@ fn at_fault(place: Place) -> Place
 
 // No bytes.
 fn no_attribute(place: Place) -> Attribute
-    ensures { result ≡ noAttribute place }
+    ensures { result ≡ no_attribute place }
 {
     Attribute {
         place,

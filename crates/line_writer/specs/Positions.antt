@@ -11,5 +11,5 @@ unfoldable pub written : List ℕ → ℕ → List ℕ → List ℕ
 written buffer at t = cond (fits buffer at t) (sets buffer at t) buffer
 
 -- the position past t; at itself where t does not fit
-unfoldable pub writtenTo : List ℕ → ℕ → List ℕ → ℕ
-writtenTo buffer at t = cond (fits buffer at t) (at + length t) at
+unfoldable pub written_to : List ℕ → ℕ → List ℕ → ℕ
+written_to buffer at t = cond (fits buffer at t) (at + length t) at

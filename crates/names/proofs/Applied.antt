@@ -1,22 +1,22 @@
 -- The definitions applied to texts: each comes to what is said of it, by computing both sides. Assumes nothing.
 use mathlib.Core.Path.{refl}
 use Rattle.capabilities.specs.Sets.{minus, single, has, outside}
-use Rattle.names.specs.Names.{capabilityNames}
+use Rattle.names.specs.Names.{capability_names}
 use Rattle.names.specs.Grammar.{names}
-use Rattle.names.specs.Reading.{readText, run, step, after, past, operator}
-use Rattle.names.specs.Writing.{setsText, spaced, preceded, clauses, flagsText, bitsAbove40, namesAnswer, namesBuffer}
+use Rattle.names.specs.Reading.{read_text, run, step, after, past, operator}
+use Rattle.names.specs.Writing.{sets_text, spaced, preceded, clauses, flags_text, bits_above40, names_answer, names_buffer}
 use Rattle.names.specs.Texts.{TextsHold}
 
-pub texts-hold : TextsHold
-unfolding readText run step after past operator names minus single setsText spaced preceded clauses flagsText capabilityNames has outside bitsAbove40 namesAnswer namesBuffer
-texts-hold =
+pub texts_hold : TextsHold
+unfolding read_text run step after past operator names minus single sets_text spaced preceded clauses flags_text capability_names has outside bits_above40 names_answer names_buffer
+texts_hold =
     record {
-      net-raw = refl;
-      every-name = refl;
+      net_raw_read = refl;
+      every_name_read = refl;
       empty = refl;
-      only-blanks = refl;
+      only_blanks = refl;
       blanks = refl;
-      either-case = refl;
+      either_case = refl;
       flags = refl;
       joined = refl;
       unnamed = refl;
@@ -24,30 +24,30 @@ texts-hold =
       take = refl;
       operators = refl;
       clauses = refl;
-      plus-first = refl;
-      dash-first = refl;
-      all-joined = refl;
-      joined-all = refl;
-      no-operator = refl;
-      within-a-name = refl;
+      plus_first = refl;
+      dash_first = refl;
+      all_joined = refl;
+      joined_all = refl;
+      no_operator = refl;
+      within_a_name = refl;
       no_flag = refl;
       no_name = refl;
-      flag-due = refl;
-      flag-due-first = refl;
-      upper-case-flag = refl;
+      flag_due = refl;
+      flag_due_first = refl;
+      upper_case_flag = refl;
       other_name = refl;
       number = refl;
-      blank-within = refl;
-      comma-behind = refl;
-      carriage-return = refl;
+      blank_within = refl;
+      comma_behind = refl;
+      carriage_return = refl;
       written = refl;
-      every-name-written = refl;
+      every_name_written = refl;
       nothing_written = refl;
-      above-permitted = refl;
-      above-inheritable = refl;
-      above-effective = refl;
+      above_permitted = refl;
+      above_inheritable = refl;
+      above_effective = refl;
       no_room = refl;
       room = refl;
       buffer = refl;
-      refused-buffer = refl;
+      refused_buffer = refl;
     }

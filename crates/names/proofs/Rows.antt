@@ -27,13 +27,13 @@ module _ (table : List ℕ) where
   entry p a l f =
       let s : length table - p ≡ suc (length l) = sym (length-drop p table) ∙ ap length f in
       let g : get_or table p 0 ∷ drop (suc p) table ≡ a ∷ l = sym (drop-cons table p 0 (omega arith)) ∙ f in
-      (same_head g, ap (λ (k : ℕ). drop k table) (add-one p) ∙ same-tail g, omega arith)
+      (same_head g, ap (λ (k : ℕ). drop k table) (add-one p) ∙ same_tail g, omega arith)
     where
       same_head : {a b : ℕ} {s t : List ℕ} → a ∷ s ≡ b ∷ t → a ≡ b
       same_head e = cc
 
-      same-tail : {a b : ℕ} {s t : List ℕ} → a ∷ s ≡ b ∷ t → s ≡ t
-      same-tail e = cc
+      same_tail : {a b : ℕ} {s t : List ℕ} → a ∷ s ≡ b ∷ t → s ≡ t
+      same_tail e = cc
 
   row_of : (xs : List Row) (k p : ℕ) (x : Row) → drop k xs ≡ x ∷ drop (k + 1) xs → drop p table ≡ flat (drop k xs) → RowAt xs k p table
   unfolding flat

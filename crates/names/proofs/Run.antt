@@ -9,17 +9,17 @@ use Rattle.names.specs.declared.Reading.TheVariants.{Means, Malformed}
 use Rattle.names.specs.Reading.{State, Step, go, stuck, later, told, step, run}
 
 -- sets are not a place
-pub not-both : {B : Type 0} {v : Sets} {n : ℕ} → Malformed n ≡ Means v → B
-not-both e = let z : ◌≡◌ {A = ℕ} 0 1 = cc in absurd (omega arith)
+pub not_both : {B : Type 0} {v : Sets} {n : ℕ} → Malformed n ≡ Means v → B
+not_both e = let z : ◌≡◌ {A = ℕ} 0 1 = cc in absurd (omega arith)
 
-pub later-means : (r : Reading) (v : Sets) → later r ≡ Means v → r ≡ Means v
-later-means (Means s) v e = e
-later-means (Malformed n) v e = not-both e
+pub later_means : (r : Reading) (v : Sets) → later r ≡ Means v → r ≡ Means v
+later_means (Means s) v e = e
+later_means (Malformed n) v e = not_both e
 
 -- where sets were read, the byte could stand there
-pub told-means : (x : Step) (f : State → Reading) (v : Sets) → told x f ≡ Means v → (s : State) × (x ≡ go s) × (f s ≡ Means v)
-told-means (go s) f v e = (s, refl, later-means (f s) v e)
-told-means stuck f v e = not-both e
+pub told_means : (x : Step) (f : State → Reading) (v : Sets) → told x f ≡ Means v → (s : State) × (x ≡ go s) × (f s ≡ Means v)
+told_means (go s) f v e = (s, refl, later_means (f s) v e)
+told_means stuck f v e = not_both e
 
 -- a byte that can stand there, before a text that is read as sets
 pub runs : (s next : State) (b : ℕ) (t : List ℕ) (v : Sets) → step s b ≡ go next → run next t ≡ Means v → run s (b ∷ t) ≡ Means v
@@ -29,4 +29,4 @@ runs s next b t v e h = ap (λ (x : Step). told x (λ n. run n t)) e ∙ ap late
 -- and the other way round
 pub ran : (s : State) (b : ℕ) (t : List ℕ) (v : Sets) → run s (b ∷ t) ≡ Means v → (next : State) × (step s b ≡ go next) × (run next t ≡ Means v)
 unfolding run
-ran s b t v e = told-means (step s b) (λ n. run n t) v e
+ran s b t v e = told_means (step s b) (λ n. run n t) v e

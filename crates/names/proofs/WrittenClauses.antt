@@ -6,34 +6,34 @@ use Prim.Native.Nat.{ℕ, suc}
 use Prim.Native.String.{String}
 use Rattle.format.specs.Line.{bytes}
 use Rattle.names.specs.declared.Sets.{Sets}
-use Rattle.names.specs.Names.{capabilityNames}
-use Rattle.names.specs.Writing.{hasFlag, clauseText, clauses, preceded, spaced, setsText}
-use Rattle.names.specs.Inside.{clausesText}
+use Rattle.names.specs.Names.{capability_names}
+use Rattle.names.specs.Writing.{has_flag, clause_text, clauses, preceded, spaced, sets_text}
+use Rattle.names.specs.Inside.{clauses_text}
 
 module _ (s : Sets) where
-  preceded-text : (n : ℕ) (l : List String) → preceded (clauses s n l) ≡ clausesText false s n l
-  unfolding preceded clauses clausesText
-  preceded-text n [] = refl
-  preceded-text n (x ∷ l) = by-test (hasFlag s n) (preceded-text (suc n) l)
+  preceded_text : (n : ℕ) (l : List String) → preceded (clauses s n l) ≡ clauses_text false s n l
+  unfolding preceded clauses clauses_text
+  preceded_text n [] = refl
+  preceded_text n (x ∷ l) = by_test (has_flag s n) (preceded_text (suc n) l)
     where
-      by-test : (q : Bool) → preceded (clauses s (suc n) l) ≡ clausesText false s (suc n) l
-          → preceded (cond q (clauseText s n x ∷ clauses s (suc n) l) (clauses s (suc n) l))
-          ≡ cond q (bytes " " ++ (clauseText s n x ++ clausesText false s (suc n) l)) (clausesText false s (suc n) l)
-      by-test true e = ap (λ (t : List ℕ). bytes " " ++ (clauseText s n x ++ t)) e
-      by-test false e = e
+      by_test : (q : Bool) → preceded (clauses s (suc n) l) ≡ clauses_text false s (suc n) l
+          → preceded (cond q (clause_text s n x ∷ clauses s (suc n) l) (clauses s (suc n) l))
+          ≡ cond q (bytes " " ++ (clause_text s n x ++ clauses_text false s (suc n) l)) (clauses_text false s (suc n) l)
+      by_test true e = ap (λ (t : List ℕ). bytes " " ++ (clause_text s n x ++ t)) e
+      by_test false e = e
 
-  spaced-text : (n : ℕ) (l : List String) → spaced (clauses s n l) ≡ clausesText true s n l
-  unfolding spaced clauses clausesText
-  spaced-text n [] = refl
-  spaced-text n (x ∷ l) = by-test (hasFlag s n) (spaced-text (suc n) l)
+  spaced_text : (n : ℕ) (l : List String) → spaced (clauses s n l) ≡ clauses_text true s n l
+  unfolding spaced clauses clauses_text
+  spaced_text n [] = refl
+  spaced_text n (x ∷ l) = by_test (has_flag s n) (spaced_text (suc n) l)
     where
-      by-test : (q : Bool) → spaced (clauses s (suc n) l) ≡ clausesText true s (suc n) l
-          → spaced (cond q (clauseText s n x ∷ clauses s (suc n) l) (clauses s (suc n) l))
-          ≡ cond q (clauseText s n x ++ clausesText false s (suc n) l) (clausesText true s (suc n) l)
-      by-test true e = ap (λ (t : List ℕ). clauseText s n x ++ t) (preceded-text (suc n) l)
-      by-test false e = e
+      by_test : (q : Bool) → spaced (clauses s (suc n) l) ≡ clauses_text true s (suc n) l
+          → spaced (cond q (clause_text s n x ∷ clauses s (suc n) l) (clauses s (suc n) l))
+          ≡ cond q (clause_text s n x ++ clauses_text false s (suc n) l) (clauses_text true s (suc n) l)
+      by_test true e = ap (λ (t : List ℕ). clause_text s n x ++ t) (preceded_text (suc n) l)
+      by_test false e = e
 
   -- the whole text, none of whose clauses was written yet
-  pub whole-text : setsText s ≡ clausesText true s 0 capabilityNames
-  unfolding setsText
-  whole-text = spaced-text 0 capabilityNames
+  pub whole_text : sets_text s ≡ clauses_text true s 0 capability_names
+  unfolding sets_text
+  whole_text = spaced_text 0 capability_names

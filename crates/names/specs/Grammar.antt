@@ -5,7 +5,7 @@ use Prim.Native.String.{String}
 use Rattle.capabilities.specs.Sets.{full, union, minus, single}
 use Rattle.format.specs.Line.{bytes}
 use Rattle.names.specs.declared.Sets.{Sets}
-use Rattle.names.specs.Names.{capabilityNames}
+use Rattle.names.specs.Names.{capability_names}
 
 -- ---- bytes
 
@@ -24,17 +24,17 @@ abbrev pub dash : ℕ
 dash = 45
 
 -- the flags: `e` for the effective set, `i` for the inheritable, `p` for the permitted; lower case only
-abbrev pub flagE : ℕ
-flagE = 101
+abbrev pub flag_e : ℕ
+flag_e = 101
 
-abbrev pub flagI : ℕ
-flagI = 105
+abbrev pub flag_i : ℕ
+flag_i = 105
 
-abbrev pub flagP : ℕ
-flagP = 112
+abbrev pub flag_p : ℕ
+flag_p = 112
 
 abbrev pub flag : ℕ → Bool
-flag b = eqb b flagE || (eqb b flagI || eqb b flagP)
+flag b = eqb b flag_e || (eqb b flag_i || eqb b flag_p)
 
 -- what parts clauses: a space, a tab, a newline
 abbrev pub blank : ℕ → Bool
@@ -56,14 +56,14 @@ pub data Word : Type 0 where
   spelt : List ℕ → ℕ → Bool → Word
 
 -- the names of the capabilities from number n on: each means its capability alone, and can be joined
-unfoldable pub wordsFrom : ℕ → List String → List Word
-wordsFrom n [] = []
-wordsFrom n (name ∷ names) = spelt (bytes name) (single n) true ∷ wordsFrom (suc n) names
+unfoldable pub words_from : ℕ → List String → List Word
+words_from n [] = []
+words_from n (name ∷ names) = spelt (bytes name) (single n) true ∷ words_from (suc n) names
 
 -- the 41 names
 unfoldable pub names : List Word
-unfolding wordsFrom capabilityNames
-names = wordsFrom 0 capabilityNames
+unfolding words_from capability_names
+names = words_from 0 capability_names
 
 -- x is one of these words
 infix 25 ◌among◌
@@ -90,8 +90,8 @@ changed false c set = minus set c
 -- a flag: c is given to its set, or taken out of it
 abbrev pub flagged : Bool → ℕ → ℕ → Sets → Sets
 flagged gives c b s =
-    cond (eqb b flagE) (record { permitted = s.permitted; inheritable = s.inheritable; effective = changed gives c s.effective })
-    (cond (eqb b flagI) (record { permitted = s.permitted; inheritable = changed gives c s.inheritable; effective = s.effective })
+    cond (eqb b flag_e) (record { permitted = s.permitted; inheritable = s.inheritable; effective = changed gives c s.effective })
+    (cond (eqb b flag_i) (record { permitted = s.permitted; inheritable = changed gives c s.inheritable; effective = s.effective })
     (record { permitted = changed gives c s.permitted; inheritable = s.inheritable; effective = s.effective }))
 
 -- c taken out of all three sets

@@ -4,7 +4,7 @@ use Rattle.std.specs.Prelude.{ℕ, suc, List, [], ◌∷◌, ◌++◌, Bool, fal
 use Prim.Native.String.{String}
 use Rattle.format.specs.Line.{bytes}
 use Rattle.names.specs.declared.Sets.{Sets}
-use Rattle.names.specs.Writing.{hasFlag, clauseText}
+use Rattle.names.specs.Writing.{has_flag, clause_text}
 
 -- ---- a table of names
 
@@ -29,9 +29,9 @@ abbrev pub separator : Bool → List ℕ
 separator first = cond first [] (bytes " ")
 
 -- the clauses of the capabilities from number n on, which have these names; `first` where none was written yet
-unfoldable pub clausesText : Bool → Sets → ℕ → List String → List ℕ
-clausesText first s n [] = []
-clausesText first s n (name ∷ names) =
-    cond (hasFlag s n)
-    (separator first ++ (clauseText s n name ++ clausesText false s (suc n) names))
-    (clausesText first s (suc n) names)
+unfoldable pub clauses_text : Bool → Sets → ℕ → List String → List ℕ
+clauses_text first s n [] = []
+clauses_text first s n (name ∷ names) =
+    cond (has_flag s n)
+    (separator first ++ (clause_text s n name ++ clauses_text false s (suc n) names))
+    (clauses_text first s (suc n) names)

@@ -4,8 +4,8 @@ use Rattle.std.specs.Prelude.{◌≡◌, Bool, true, false, not, ◌&&◌, List,
 use Prim.Native.String.{String}
 use Rattle.format.specs.Line.{bytes}
 
-unfoldable pub capabilityNames : List String
-capabilityNames =
+unfoldable pub capability_names : List String
+capability_names =
     "cap_chown" ∷
     "cap_dac_override" ∷
     "cap_dac_read_search" ∷
@@ -62,19 +62,19 @@ abbrev pub apart : List ℕ → List ℕ → Bool
 apart t u = not (begins t u) && not (begins u t)
 
 -- a text is apart from each of these names
-unfoldable pub apartFromAll : List ℕ → List String → Bool
-apartFromAll t [] = true
-apartFromAll t (name ∷ names) = apart t (bytes name) && apartFromAll t names
+unfoldable pub apart_from_all : List ℕ → List String → Bool
+apart_from_all t [] = true
+apart_from_all t (name ∷ names) = apart t (bytes name) && apart_from_all t names
 
 -- each of these names is apart from those behind it
-unfoldable pub allApart : List String → Bool
-allApart [] = true
-allApart (name ∷ names) = apartFromAll (bytes name) names && allApart names
+unfoldable pub all_apart : List String → Bool
+all_apart [] = true
+all_apart (name ∷ names) = apart_from_all (bytes name) names && all_apart names
 
 pub record NamesApart : Type 0 where
   -- there is a name for each capability, 0 to 40
-  pub count : length capabilityNames ≡ 41
+  pub count : length capability_names ≡ 41
   -- all differ, and none begins another
-  pub names : allApart capabilityNames ≡ true
+  pub names : all_apart capability_names ≡ true
   -- nor does one begin `all`, or `all` begin one
-  pub all : apartFromAll (bytes "all") capabilityNames ≡ true
+  pub all : apart_from_all (bytes "all") capability_names ≡ true

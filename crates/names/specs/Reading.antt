@@ -84,5 +84,5 @@ run s [] = finish s
 run s (b ∷ t) = told (step s b) (λ next. run next t)
 
 -- the reader's answer
-unfoldable pub readText : List ℕ → Reading
-readText t = run (gap no_sets) t
+unfoldable pub read_text : List ℕ → Reading
+read_text t = run (gap no_sets) t

@@ -2,14 +2,14 @@
 use Rattle.std.specs.Prelude.{◌≡◌, false, List, ℕ, length, take}
 use Rattle.names.specs.declared.Sets.{Sets}
 use Rattle.names.specs.declared.Reading.TheVariants.{Means}
-use Rattle.names.specs.Reading.{readText}
-use Rattle.names.specs.Writing.{setsText, bitsAbove40, namesAnswer, namesBuffer}
+use Rattle.names.specs.Reading.{read_text}
+use Rattle.names.specs.Writing.{sets_text, bits_above40, names_answer, names_buffer}
 
 pub record RoundTrip : Type 0 where
   -- reading what was written gives the three sets back, whichever they are, without a bit above 40
-  pub written_read : (s : Sets) → bitsAbove40 s ≡ false → readText (setsText s) ≡ Means s
+  pub written_read : (s : Sets) → bits_above40 s ≡ false → read_text (sets_text s) ≡ Means s
   -- so do the bytes that the writer put into a buffer, as many as it says
-  pub buffer-read : (s : Sets) (old : List ℕ) → (namesAnswer s (length old)).code ≡ 0
-      → readText (take (namesAnswer s (length old)).length (namesBuffer s old)) ≡ Means s
+  pub buffer_read : (s : Sets) (old : List ℕ) → (names_answer s (length old)).code ≡ 0
+      → read_text (take (names_answer s (length old)).length (names_buffer s old)) ≡ Means s
   -- sets that were read have no bit above 40, so that they can be written
-  pub read-writable : (t : List ℕ) (s : Sets) → readText t ≡ Means s → bitsAbove40 s ≡ false
+  pub read_writable : (t : List ℕ) (s : Sets) → read_text t ≡ Means s → bits_above40 s ≡ false

@@ -12,46 +12,46 @@ use borrow.Author.Tests.{eqb-true}
 use Rattle.names.specs.Grammar.{lower, lowered}
 use Rattle.names_reader.specs.Inside.{common}
 
-pub common-step : (key text : List ℕ) (k i j n : ℕ) → k < length key → i < length text → j ≡ i + 1
+pub common_step : (key text : List ℕ) (k i j n : ℕ) → k < length key → i < length text → j ≡ i + 1
     → n + common (drop k key) (drop i text) ≡ cond (eqb (lower (get_or text i 0)) (get_or key k 0)) (n + 1 + common (drop (k + 1) key) (drop j text)) n
 unfolding common
-common-step key text k i j n h g e =
-    rw (drop-cons key k 0 h, drop-cons text i 0 g, e, add-one i, add-one k) (by-test (eqb (lower (get_or text i 0)) (get_or key k 0)) _)
+common_step key text k i j n h g e =
+    rw (drop-cons key k 0 h, drop-cons text i 0 g, e, add-one i, add-one k) (by_test (eqb (lower (get_or text i 0)) (get_or key k 0)) _)
   where
-    by-test : (p : Bool) (m : ℕ) → n + cond p (suc m) 0 ≡ cond p (n + 1 + m) n
-    by-test true m = omega arith
-    by-test false m = omega arith
+    by_test : (p : Bool) (m : ℕ) → n + cond p (suc m) 0 ≡ cond p (n + 1 + m) n
+    by_test true m = omega arith
+    by_test false m = omega arith
 
-pub common-nil : (ks : List ℕ) → common ks [] ≡ 0
+pub common_nil : (ks : List ℕ) → common ks [] ≡ 0
 unfolding common
-common-nil [] = refl
-common-nil (k ∷ ks) = refl
+common_nil [] = refl
+common_nil (k ∷ ks) = refl
 
-pub common-short : (ks text : List ℕ) (i n : ℕ) → length text ≤ i → n + common ks (drop i text) ≡ n
-common-short ks text i n h = rw (drop_of_length-le text h, common-nil ks) (omega arith)
+pub common_short : (ks text : List ℕ) (i n : ℕ) → length text ≤ i → n + common ks (drop i text) ≡ n
+common_short ks text i n h = rw (drop_of_length-le text h, common_nil ks) (omega arith)
 
-pub common-end : (key t : List ℕ) (k n : ℕ) → length key ≤ k → n + common (drop k key) t ≡ n
+pub common_end : (key t : List ℕ) (k n : ℕ) → length key ≤ k → n + common (drop k key) t ≡ n
 unfolding common
-common-end key t k n h = rw (drop_of_length-le key h) (omega arith)
+common_end key t k n h = rw (drop_of_length-le key h) (omega arith)
 
-pub common-le : (w t : List ℕ) → (common w t ≤ length w) × (common w t ≤ length t)
+pub common_le : (w t : List ℕ) → (common w t ≤ length w) × (common w t ≤ length t)
 unfolding common
-common-le [] t = (omega arith, omega arith)
-common-le (k ∷ ks) [] = (omega arith, omega arith)
-common-le (k ∷ ks) (b ∷ t) = by-test (eqb (lower b) k) (common-le ks t)
+common_le [] t = (omega arith, omega arith)
+common_le (k ∷ ks) [] = (omega arith, omega arith)
+common_le (k ∷ ks) (b ∷ t) = by_test (eqb (lower b) k) (common_le ks t)
   where
-    by-test : (p : Bool) → (common ks t ≤ length ks) × (common ks t ≤ length t) → (cond p (suc (common ks t)) 0 ≤ length (k ∷ ks)) × (cond p (suc (common ks t)) 0 ≤ length (b ∷ t))
-    by-test true h = (omega arith, omega arith)
-    by-test false h = (omega arith, omega arith)
+    by_test : (p : Bool) → (common ks t ≤ length ks) × (common ks t ≤ length t) → (cond p (suc (common ks t)) 0 ≤ length (k ∷ ks)) × (cond p (suc (common ks t)) 0 ≤ length (b ∷ t))
+    by_test true h = (omega arith, omega arith)
+    by_test false h = (omega arith, omega arith)
 
 -- a word that agrees in all of its bytes
-pub common-whole : (w t : List ℕ) → common w t ≡ length w → lowered (take (length w) t) ≡ w
+pub common_whole : (w t : List ℕ) → common w t ≡ length w → lowered (take (length w) t) ≡ w
 unfolding common lowered
-common-whole [] t h = refl
-common-whole (k ∷ ks) [] h = absurd (omega arith)
-common-whole (k ∷ ks) (b ∷ t) h = by-test (eqb (lower b) k) refl h (common-whole ks t)
+common_whole [] t h = refl
+common_whole (k ∷ ks) [] h = absurd (omega arith)
+common_whole (k ∷ ks) (b ∷ t) h = by_test (eqb (lower b) k) refl h (common_whole ks t)
   where
-    by-test : (p : Bool) → eqb (lower b) k ≡ p → cond p (suc (common ks t)) 0 ≡ suc (length ks) → (common ks t ≡ length ks → lowered (take (length ks) t) ≡ ks)
+    by_test : (p : Bool) → eqb (lower b) k ≡ p → cond p (suc (common ks t)) 0 ≡ suc (length ks) → (common ks t ≡ length ks → lowered (take (length ks) t) ≡ ks)
         → lower b ∷ lowered (take (length ks) t) ≡ k ∷ ks
-    by-test true e g f = rw (eqb-true (lower b) k e, f (omega arith))
-    by-test false e g f = absurd (omega arith)
+    by_test true e g f = rw (eqb-true (lower b) k e, f (omega arith))
+    by_test false e g f = absurd (omega arith)

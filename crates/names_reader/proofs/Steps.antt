@@ -17,61 +17,61 @@ use Rattle.names.specs.declared.Reading.{Reading}
 use Rattle.names.specs.declared.Reading.TheVariants.{Means, Malformed}
 use Rattle.names.specs.Grammar.{lower, blank, flag, equals, plus, dash, flagged, Word, spelt, names}
 use Rattle.names.specs.Reading.{every, after, State, gap, word, operated, Step, go, stuck, finish, later, told, operator, past, within, step, run}
-use Rattle.names_reader.specs.Inside.{from, readAt, operates, begun}
+use Rattle.names_reader.specs.Inside.{from, read_at, operates, begun}
 
-pub not-true : (b : Bool) → not b ≡ true → b ≡ false
-not-true true h = sym h
-not-true false h = refl
+pub not_true : (b : Bool) → not b ≡ true → b ≡ false
+not_true true h = sym h
+not_true false h = refl
 
-pub not-false : (b : Bool) → not b ≡ false → b ≡ true
-not-false true h = refl
-not-false false h = sym h
+pub not_false : (b : Bool) → not b ≡ false → b ≡ true
+not_false true h = refl
+not_false false h = sym h
 
-from-later : (i : ℕ) (r : Reading) → from i (later r) ≡ from (i + 1) r
-from-later i (Means s) = refl
-from-later i (Malformed n) = let e : i + suc n ≡ i + 1 + n = omega arith in rw e
+from_later : (i : ℕ) (r : Reading) → from i (later r) ≡ from (i + 1) r
+from_later i (Means s) = refl
+from_later i (Malformed n) = let e : i + suc n ≡ i + 1 + n = omega arith in rw e
 
 module _ (text : List ℕ) (i : ℕ) where
-  read_told : (x : State) → i < length text → readAt text i x ≡ from i (told (step x (get_or text i 0)) (λ next. run next (drop (suc i) text)))
-  unfolding readAt run
+  read_told : (x : State) → i < length text → read_at text i x ≡ from i (told (step x (get_or text i 0)) (λ next. run next (drop (suc i) text)))
+  unfolding read_at run
   read_told x h = rw (drop-cons text i 0 h)
 
-  pub read-go : (x next : State) → i < length text → step x (get_or text i 0) ≡ go next → readAt text i x ≡ readAt text (i + 1) next
-  unfolding readAt
-  read-go x next h e =
-      read_told x h ∙ ap (λ (y : Step). from i (told y (λ n. run n (drop (suc i) text)))) e ∙ from-later i (run next (drop (suc i) text))
+  pub read_go : (x next : State) → i < length text → step x (get_or text i 0) ≡ go next → read_at text i x ≡ read_at text (i + 1) next
+  unfolding read_at
+  read_go x next h e =
+      read_told x h ∙ ap (λ (y : Step). from i (told y (λ n. run n (drop (suc i) text)))) e ∙ from_later i (run next (drop (suc i) text))
       ∙ ap (λ (k : ℕ). from (i + 1) (run next (drop k text))) (sym (add-one i))
 
-  pub read-stuck : (x : State) → i < length text → step x (get_or text i 0) ≡ stuck → readAt text i x ≡ Malformed i
-  read-stuck x h e = read_told x h ∙ ap (λ (y : Step). from i (told y (λ n. run n (drop (suc i) text)))) e ∙ ap Malformed (add-zero i)
+  pub read_stuck : (x : State) → i < length text → step x (get_or text i 0) ≡ stuck → read_at text i x ≡ Malformed i
+  read_stuck x h e = read_told x h ∙ ap (λ (y : Step). from i (told y (λ n. run n (drop (suc i) text)))) e ∙ ap Malformed (add-zero i)
 
-  pub read-end : (x : State) → length text ≤ i → readAt text i x ≡ from i (finish x)
-  unfolding readAt run
-  read-end x h = rw (drop_of_length-le text h)
+  pub read_end : (x : State) → length text ≤ i → read_at text i x ≡ from i (finish x)
+  unfolding read_at run
+  read_end x h = rw (drop_of_length-le text h)
 
 -- ---- within flags and operators
 
 module _ (g e : Bool) (c : ℕ) (s : Sets) (b : ℕ) where
-  pub operated-flag : flag b ≡ true → step (operated g e c s) b ≡ go (operated g true c (flagged g c b s))
+  pub operated_flag : flag b ≡ true → step (operated g e c s) b ≡ go (operated g true c (flagged g c b s))
   unfolding step
-  operated-flag h = rw h
+  operated_flag h = rw h
 
-  pub operated-stuck : flag b ≡ false → e ≡ false → step (operated g e c s) b ≡ stuck
+  pub operated_stuck : flag b ≡ false → e ≡ false → step (operated g e c s) b ≡ stuck
   unfolding step
-  operated-stuck h k = rw (h, k)
+  operated_stuck h k = rw (h, k)
 
-  pub operated-blank : flag b ≡ false → e ≡ true → blank b ≡ true → step (operated g e c s) b ≡ go (gap s)
+  pub operated_blank : flag b ≡ false → e ≡ true → blank b ≡ true → step (operated g e c s) b ≡ go (gap s)
   unfolding step
-  operated-blank h k q = rw (h, k, q)
+  operated_blank h k q = rw (h, k, q)
 
-  pub operated-operator : flag b ≡ false → e ≡ true → blank b ≡ false → step (operated g e c s) b ≡ operator c s b
+  pub operated_operator : flag b ≡ false → e ≡ true → blank b ≡ false → step (operated g e c s) b ≡ operator c s b
   unfolding step
-  operated-operator h k q = rw (h, k, q)
+  operated_operator h k q = rw (h, k, q)
 
 -- ---- an operator
 
-operates-is : (P : ℕ → Type 0) → P 61 → P 43 → P 45 → (b : ℕ) → operates b ≡ true → P b
-operates-is P x y z b h = by_first (eqb b 61) (eqb b 43) (eqb b 45) refl refl refl h
+operates_is : (P : ℕ → Type 0) → P 61 → P 43 → P 45 → (b : ℕ) → operates b ≡ true → P b
+operates_is P x y z b h = by_first (eqb b 61) (eqb b 43) (eqb b 45) refl refl refl h
   where
     by_first : (p q r : Bool) → eqb b 61 ≡ p → eqb b 43 ≡ q → eqb b 45 ≡ r → p || (q || r) ≡ true → P b
     by_first true q r e f g k = rw (eqb-true b 61 e) x
@@ -79,82 +79,82 @@ operates-is P x y z b h = by_first (eqb b 61) (eqb b 43) (eqb b 45) refl refl re
     by_first false false true e f g k = rw (eqb-true b 45 g) z
     by_first false false false e f g k = let n : ◌≡◌ {A = ℕ} 0 1 = cc in absurd (omega arith)
 
-not-operator : (b : ℕ) → operates b ≡ false → (b ≡ 61 → ⊥) × (b ≡ 43 → ⊥) × (b ≡ 45 → ⊥)
-not-operator b h = (λ e. no_way (rw e at h), λ e. no_way (rw e at h), λ e. no_way (rw e at h))
+not_operator : (b : ℕ) → operates b ≡ false → (b ≡ 61 → ⊥) × (b ≡ 43 → ⊥) × (b ≡ 45 → ⊥)
+not_operator b h = (λ e. no_way (rw e at h), λ e. no_way (rw e at h), λ e. no_way (rw e at h))
   where
     no_way : true ≡ false → ⊥
     no_way z = let n : ◌≡◌ {A = ℕ} 0 1 = cc in absurd (omega arith)
 
 module _ (c : ℕ) (s : Sets) (b : ℕ) where
-  pub operator-begun : operates b ≡ true → operator c s b ≡ go (operated (not (eqb b dash)) (eqb b equals) c (begun b c s))
+  pub operator_begun : operates b ≡ true → operator c s b ≡ go (operated (not (eqb b dash)) (eqb b equals) c (begun b c s))
   unfolding operator
-  operator-begun h = operates-is (λ k. operator c s k ≡ go (operated (not (eqb k dash)) (eqb k equals) c (begun k c s))) refl refl refl b h
+  operator_begun h = operates_is (λ k. operator c s k ≡ go (operated (not (eqb k dash)) (eqb k equals) c (begun k c s))) refl refl refl b h
 
-  pub operator-stuck : operates b ≡ false → operator c s b ≡ stuck
+  pub operator_stuck : operates b ≡ false → operator c s b ≡ stuck
   unfolding operator
-  operator-stuck h = let o = not-operator b h in rw (ne_eqb b equals o.0, ne_eqb b plus o.1, ne_eqb b dash o.2)
+  operator_stuck h = let o = not_operator b h in rw (ne_eqb b equals o.0, ne_eqb b plus o.1, ne_eqb b dash o.2)
 
 -- ---- after a complete word, and between clauses
 
 module _ (text : List ℕ) (i : ℕ) where
   -- states that take the next byte alike are read alike
-  pub read_same : (x y : State) → i < length text → step x (get_or text i 0) ≡ step y (get_or text i 0) → readAt text i x ≡ readAt text i y
+  pub read_same : (x y : State) → i < length text → step x (get_or text i 0) ≡ step y (get_or text i 0) → read_at text i x ≡ read_at text i y
   read_same x y h e =
       read_told text i x h ∙ ap (λ (z : Step). from i (told z (λ n. run n (drop (suc i) text)))) e ∙ sym (read_told text i y h)
 
 module _ (d m : ℕ) (j : Bool) (s : Sets) (b : ℕ) where
   -- an operator behind a complete word is read as behind flags
-  pub done-operator : operates b ≡ true → step (word (spelt [] m j ∷ []) d s) b ≡ step (operated true true (union d m) s) b
+  pub done_operator : operates b ≡ true → step (word (spelt [] m j ∷ []) d s) b ≡ step (operated true true (union d m) s) b
   unfolding step operator past after
-  done-operator h = operates-is (λ k. step (word (spelt [] m j ∷ []) d s) k ≡ step (operated true true (union d m) s) k) refl refl refl b h
+  done_operator h = operates_is (λ k. step (word (spelt [] m j ∷ []) d s) k ≡ step (operated true true (union d m) s) k) refl refl refl b h
 
-  pub done-comma : b ≡ 44 → step (word (spelt [] m true ∷ []) d s) b ≡ go (word names (union d m) s)
+  pub done_comma : b ≡ 44 → step (word (spelt [] m true ∷ []) d s) b ≡ go (word names (union d m) s)
   unfolding step past after
-  done-comma e = rw e
+  done_comma e = rw e
 
   pub done_stuck : operates b ≡ false → (b ≡ 44 → ⊥) → step (word (spelt [] m j ∷ []) d s) b ≡ stuck
   unfolding step past after
-  done_stuck h n = rw (ne_eqb b 44 n) (operator-stuck (union d m) s b h)
+  done_stuck h n = rw (ne_eqb b 44 n) (operator_stuck (union d m) s b h)
 
-  pub alone-stuck : operates b ≡ false → step (word (spelt [] m false ∷ []) d s) b ≡ stuck
+  pub alone_stuck : operates b ≡ false → step (word (spelt [] m false ∷ []) d s) b ≡ stuck
   unfolding step past after
-  alone-stuck h = by-comma (eqb b 44) (operator-stuck (union d m) s b h)
+  alone_stuck h = by_comma (eqb b 44) (operator_stuck (union d m) s b h)
     where
-      by-comma : (q : Bool) → operator (union d m) s b ≡ stuck → cond (q && false) (go (word names (union d m) s)) (operator (union d m) s b) ≡ stuck
-      by-comma true e = e
-      by-comma false e = e
+      by_comma : (q : Bool) → operator (union d m) s b ≡ stuck → cond (q && false) (go (word names (union d m) s)) (operator (union d m) s b) ≡ stuck
+      by_comma true e = e
+      by_comma false e = e
 
-gap-first : (s : Sets) (b : ℕ) → blank b ≡ false → (b ≡ 61 → ⊥) → step (gap s) b ≡ within (after (lower b) (every ∷ names)) 0 s stuck
+gap_first : (s : Sets) (b : ℕ) → blank b ≡ false → (b ≡ 61 → ⊥) → step (gap s) b ≡ within (after (lower b) (every ∷ names)) 0 s stuck
 unfolding step
-gap-first s b h n = rw (h, ne_eqb b 61 n)
+gap_first s b h n = rw (h, ne_eqb b 61 n)
 
-first-name : (k : ℕ) → (k ≡ 97 → ⊥) → after k (every ∷ names) ≡ after k names
+first_name : (k : ℕ) → (k ≡ 97 → ⊥) → after k (every ∷ names) ≡ after k names
 unfolding after
-first-name k e = rw (ne_eqb k 97 e)
+first_name k e = rw (ne_eqb k 97 e)
 
-all-names : after 97 (every ∷ names) ≡ spelt (108 ∷ 108 ∷ []) full false ∷ []
+all_names : after 97 (every ∷ names) ≡ spelt (108 ∷ 108 ∷ []) full false ∷ []
 unfolding after names
-all-names = refl
+all_names = refl
 
-all-step : (s : Sets) (b : ℕ) → lower b ≡ 97 → step (word (every ∷ []) 0 s) b ≡ go (word (spelt (108 ∷ 108 ∷ []) full false ∷ []) 0 s)
+all_step : (s : Sets) (b : ℕ) → lower b ≡ 97 → step (word (every ∷ []) 0 s) b ≡ go (word (spelt (108 ∷ 108 ∷ []) full false ∷ []) 0 s)
 unfolding step after
-all-step s b e = ap (λ (k : ℕ). within (after k (every ∷ [])) 0 s (past (every ∷ []) 0 s b)) e
+all_step s b e = ap (λ (k : ℕ). within (after k (every ∷ [])) 0 s (past (every ∷ []) 0 s b)) e
 
-names-first : (s : Sets) (b : ℕ) → step (word names 0 s) b ≡ within (after (lower b) names) 0 s stuck
+names_first : (s : Sets) (b : ℕ) → step (word names 0 s) b ≡ within (after (lower b) names) 0 s stuck
 unfolding step past names
-names-first s b = refl
+names_first s b = refl
 
 module _ (s : Sets) (b : ℕ) where
-  pub gap-blank : blank b ≡ true → step (gap s) b ≡ go (gap s)
+  pub gap_blank : blank b ≡ true → step (gap s) b ≡ go (gap s)
   unfolding step
-  gap-blank h = rw h
+  gap_blank h = rw h
 
-  pub gap-put : b ≡ 61 → step (gap s) b ≡ step (operated true true full s) b
+  pub gap_put : b ≡ 61 → step (gap s) b ≡ step (operated true true full s) b
   unfolding step
-  gap-put e = rw e
+  gap_put e = rw e
 
-  pub gap-all : blank b ≡ false → (b ≡ 61 → ⊥) → lower b ≡ 97 → step (gap s) b ≡ step (word (every ∷ []) 0 s) b
-  gap-all h n e = gap-first s b h n ∙ ap (λ (k : ℕ). within (after k (every ∷ names)) 0 s stuck) e ∙ ap (λ (xs : List Word). within xs 0 s stuck) all-names ∙ sym (all-step s b e)
+  pub gap_all : blank b ≡ false → (b ≡ 61 → ⊥) → lower b ≡ 97 → step (gap s) b ≡ step (word (every ∷ []) 0 s) b
+  gap_all h n e = gap_first s b h n ∙ ap (λ (k : ℕ). within (after k (every ∷ names)) 0 s stuck) e ∙ ap (λ (xs : List Word). within xs 0 s stuck) all_names ∙ sym (all_step s b e)
 
-  pub gap-name : blank b ≡ false → (b ≡ 61 → ⊥) → (lower b ≡ 97 → ⊥) → step (gap s) b ≡ step (word names 0 s) b
-  gap-name h n e = gap-first s b h n ∙ ap (λ (xs : List Word). within xs 0 s stuck) (first-name (lower b) e) ∙ sym (names-first s b)
+  pub gap_name : blank b ≡ false → (b ≡ 61 → ⊥) → (lower b ≡ 97 → ⊥) → step (gap s) b ≡ step (word names 0 s) b
+  gap_name h n e = gap_first s b h n ∙ ap (λ (xs : List Word). within xs 0 s stuck) (first_name (lower b) e) ∙ sym (names_first s b)

@@ -5,7 +5,7 @@ use Rattle.capabilities.specs.Sets.{single, union}
 use Rattle.names.specs.declared.Sets.{Sets}
 use Rattle.names.specs.declared.Reading.{Reading}
 use Rattle.names.specs.declared.Reading.TheVariants.{Means, Malformed}
-use Rattle.names.specs.Names.{capabilityNames}
+use Rattle.names.specs.Names.{capability_names}
 use Rattle.names.specs.Inside.{Row, row, rows_from}
 use Rattle.names.specs.Grammar.{lower, equals, plus, dash, without, spelt, names}
 use Rattle.names.specs.Reading.{every, State, gap, word, operated, run}
@@ -26,8 +26,8 @@ from n (Means s) = Means s
 from n (Malformed k) = Malformed (n + k)
 
 -- a text read from a position, in a state
-unfoldable pub readAt : List ℕ → ℕ → State → Reading
-readAt text at s = from at (run s (drop at text))
+unfoldable pub read_at : List ℕ → ℕ → State → Reading
+read_at text at s = from at (run s (drop at text))
 
 -- an operator's byte
 abbrev pub operates : ℕ → Bool
@@ -38,9 +38,9 @@ abbrev pub begun : ℕ → ℕ → Sets → Sets
 begun b c s = cond (eqb b equals) (without c s) s
 
 -- what the text is read as behind a clause
-abbrev pub clauseRead : Clause → List ℕ → Reading
-clauseRead (Ended s next) text = readAt text next (gap s)
-clauseRead (Stuck n) text = Malformed n
+abbrev pub clause_read : Clause → List ℕ → Reading
+clause_read (Ended s next) text = read_at text next (gap s)
+clause_read (Stuck n) text = Malformed n
 
 -- a clause ends further on
 abbrev pub ClauseEnd : Clause → ℕ → Type 0
@@ -53,21 +53,21 @@ OperatorsEnd (Ended s next) at text = at < length text → at < next
 OperatorsEnd (Stuck n) at text = Unit
 
 -- what the text is read as behind those whom a clause is about
-abbrev pub subjectRead : S.Subject → List ℕ → Sets → Reading
-subjectRead (Of c next) text s = readAt text next (operated true true c s)
-subjectRead (SV.Missing n) text s = Malformed n
+abbrev pub subject_read : S.Subject → List ℕ → Sets → Reading
+subject_read (Of c next) text s = read_at text next (operated true true c s)
+subject_read (SV.Missing n) text s = Malformed n
 
 -- from the front of a clause
 abbrev pub SubjectTold : S.Subject → List ℕ → ℕ → Type 0
-SubjectTold r text at = (s : Sets) → subjectRead r text s ≡ readAt text at (gap s)
+SubjectTold r text at = (s : Sets) → subject_read r text s ≡ read_at text at (gap s)
 
 -- behind names that mean c
 abbrev pub NamesTold : S.Subject → List ℕ → ℕ → ℕ → Type 0
-NamesTold r text at c = (s : Sets) (d m : ℕ) → union d m ≡ c → subjectRead r text s ≡ readAt text at (word (spelt [] m true ∷ []) d s)
+NamesTold r text at c = (s : Sets) (d m : ℕ) → union d m ≡ c → subject_read r text s ≡ read_at text at (word (spelt [] m true ∷ []) d s)
 
 -- from the front of `all`
 abbrev pub AllTold : S.Subject → List ℕ → ℕ → Type 0
-AllTold r text at = (s : Sets) → subjectRead r text s ≡ readAt text at (word (every ∷ []) 0 s)
+AllTold r text at = (s : Sets) → subject_read r text s ≡ read_at text at (word (every ∷ []) 0 s)
 
 -- they end no further back, where the text goes on
 abbrev pub SubjectEnd : S.Subject → ℕ → List ℕ → Type 0
@@ -75,13 +75,13 @@ SubjectEnd (Of c next) at text = (at ≤ next) × (next < length text)
 SubjectEnd (SV.Missing n) at text = Unit
 
 -- what the text is read as behind a name
-abbrev pub nameRead : N.Name → List ℕ → ℕ → Sets → Reading
-nameRead (Is number next) text c s = readAt text next (word (spelt [] (single number) true ∷ []) c s)
-nameRead (NV.Missing n) text c s = Malformed n
+abbrev pub name_read : N.Name → List ℕ → ℕ → Sets → Reading
+name_read (Is number next) text c s = read_at text next (word (spelt [] (single number) true ∷ []) c s)
+name_read (NV.Missing n) text c s = Malformed n
 
 -- from the front of the name, whatever was read before it
 abbrev pub NameTold : N.Name → List ℕ → ℕ → Type 0
-NameTold r text at = (c : ℕ) (s : Sets) → nameRead r text c s ≡ readAt text at (word names c s)
+NameTold r text at = (c : ℕ) (s : Sets) → name_read r text c s ≡ read_at text at (word names c s)
 
 -- it ends no further back, within the text
 abbrev pub NameEnd : N.Name → ℕ → List ℕ → Type 0
@@ -106,14 +106,14 @@ put_in x [] = x ∷ []
 put_in x (y ∷ ys) = cond (ltb (size y) (size x)) (y ∷ put_in x ys) (x ∷ y ∷ ys)
 
 -- the shorter ones first
-unfoldable pub byLength : List Row → List Row
-byLength [] = []
-byLength (x ∷ xs) = put_in x (byLength xs)
+unfoldable pub by_length : List Row → List Row
+by_length [] = []
+by_length (x ∷ xs) = put_in x (by_length xs)
 
 -- the rows of the table
 unfoldable pub rows : List Row
-unfolding byLength put_in rows_from capabilityNames
-rows = byLength (rows_from 0 capabilityNames)
+unfolding by_length put_in rows_from capability_names
+rows = by_length (rows_from 0 capability_names)
 
 -- the row of number k
 abbrev pub row_at : ℕ → Row
@@ -138,27 +138,27 @@ abbrev pub hashed : ℕ → ℕ → ℕ → ℕ → ℕ
 hashed b0 b3 b4 b6 = (7 * b0 + 36 * b3 + 9 * b4 + 2 * b6) % 64
 
 -- that of a name behind `cap_`: its bytes 0, 3, 4 and 6, and 0 where it has none
-abbrev pub hashOf : List ℕ → ℕ
-hashOf w = hashed (get_or w 0 0) (get_or w 3 0) (get_or w 4 0) (get_or w 6 0)
+abbrev pub hash_of : List ℕ → ℕ
+hash_of w = hashed (get_or w 0 0) (get_or w 3 0) (get_or w 4 0) (get_or w 6 0)
 
 -- of these rows, the first of which has number k, the first that has six bytes or more and comes to h; ff where there is none
-unfoldable pub rowFor : ℕ → ℕ → List Row → ℕ
-rowFor h k [] = 0xff
-rowFor h k (x ∷ xs) = cond (leb 6 (size x) && eqb (hashOf (text_of x)) h) k (rowFor h (suc k) xs)
+unfoldable pub row_for : ℕ → ℕ → List Row → ℕ
+row_for h k [] = 0xff
+row_for h k (x ∷ xs) = cond (leb 6 (size x) && eqb (hash_of (text_of x)) h) k (row_for h (suc k) xs)
 
 -- the row for each of n numbers, from h on
-unfoldable pub rowsFor : ℕ → ℕ → List ℕ
-rowsFor zero h = []
-rowsFor (suc n) h = rowFor h 0 rows ∷ rowsFor n (suc h)
+unfoldable pub rows_for : ℕ → ℕ → List ℕ
+rows_for zero h = []
+rows_for (suc n) h = row_for h 0 rows ∷ rows_for n (suc h)
 
 -- the index of the rows
 unfoldable pub index : List ℕ
-index = rowsFor 64 0
+index = rows_for 64 0
 
 -- each of these rows, the first of which has number k, that has six bytes or more is the row for its number; proofs/Rows.antt computes it for the table
-unfoldable pub allIndexed : ℕ → List Row → Bool
-allIndexed k [] = true
-allIndexed k (x ∷ xs) = (ltb (size x) 6 || eqb (rowFor (hashOf (text_of x)) 0 rows) k) && allIndexed (suc k) xs
+unfoldable pub all_indexed : ℕ → List Row → Bool
+all_indexed k [] = true
+all_indexed k (x ∷ xs) = (ltb (size x) 6 || eqb (row_for (hash_of (text_of x)) 0 rows) k) && all_indexed (suc k) xs
 
 -- how many bytes of a word stand at the front of a text, in either case
 unfoldable pub common : List ℕ → List ℕ → ℕ

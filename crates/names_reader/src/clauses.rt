@@ -2,7 +2,7 @@
 ghost use Rattle.std.specs.Prelude.{◌≡◌, true, false, ◌<◌, length, get_or};
 ghost use Rattle.names.specs.Grammar.{blank, changed, flagged, without};
 ghost use Rattle.names.specs.Reading.{gap, operated};
-ghost use Rattle.names_reader.specs.Inside.{begun, ClauseEnd, clauseRead, OperatorsEnd, padded, readAt, rows};
+ghost use Rattle.names_reader.specs.Inside.{begun, ClauseEnd, clause_read, OperatorsEnd, padded, read_at, rows};
 
 use crate::bytes::{DASH, EQUALS, FLAG_E, FLAG_I, is_blank, is_flag, is_operator};
 use crate::subjects::subject_at;
@@ -13,7 +13,7 @@ use names::Sets;
 // The clause at the position at, and the blank that ends it.
 pub(crate) fn clause_at(text: &[u8], at: usize, table: &[u8], index: &[u8], s: Sets) -> Clause
     requires { (at < length text.now) × (blank (get_or text.now at 0) ≡ false) × (table.now ≡ padded rows) }
-    ensures { (clauseRead result text.now ≡ readAt text.now at (gap s)) × ClauseEnd result at }
+    ensures { (clause_read result text.now ≡ read_at text.now at (gap s)) × ClauseEnd result at }
 {
     match subject_at(text, at, table, index) {
         Subject::Missing(place) => Clause::Stuck(place),
@@ -23,7 +23,7 @@ pub(crate) fn clause_at(text: &[u8], at: usize, table: &[u8], index: &[u8], s: S
 
 // The operators of a clause about c, and the blank that ends it.
 fn operators_at(text: &[u8], at: usize, c: u64, s: Sets) -> Clause
-    ensures { (clauseRead result text.now ≡ readAt text.now at (operated true true c s)) × OperatorsEnd result at text.now }
+    ensures { (clause_read result text.now ≡ read_at text.now at (operated true true c s)) × OperatorsEnd result at text.now }
 {
     let mut i = at;
     let mut gives = true;

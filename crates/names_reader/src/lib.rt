@@ -3,7 +3,7 @@
 // A text is read clause by clause: whom a clause is about, then its operators. The form itself is defined in the crate `names`; the table that names are
 // found by and its index are made once and lent. Every function is proved, for every argument: no public one has a `requires`. The crate assumes nothing.
 ghost use Rattle.std.specs.Prelude.{◌≡◌};
-ghost use Rattle.names.specs.Reading.{readText};
+ghost use Rattle.names.specs.Reading.{read_text};
 ghost use Rattle.names_reader.specs.Inside.{padded, rows};
 
 mod bytes;
@@ -37,7 +37,7 @@ pub(crate) enum Name {
 
 // The three sets that a text stands for, or the place at which it is malformed.
 pub fn read_names(text: &[u8]) -> Reading
-    ensures { result ≡ readText text.now }
+    ensures { result ≡ read_text text.now }
 {
     let table = table::by_length();
     let index = table::by_hash();
@@ -47,7 +47,7 @@ pub fn read_names(text: &[u8]) -> Reading
 // The same with the table of names and its index.
 fn read_with(text: &[u8], table: &[u8], index: &[u8]) -> Reading
     requires { table.now ≡ padded rows }
-    ensures { result ≡ readText text.now }
+    ensures { result ≡ read_text text.now }
 {
     let mut i: usize = 0;
     let mut sets = Sets {

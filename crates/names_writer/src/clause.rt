@@ -1,8 +1,8 @@
 // The clause of one capability, where it has any flag: what parts it from the clause before it, its name, `=` and its flags.
 ghost use Rattle.std.specs.Prelude.{◌≡◌, cond, [], ◌∷◌, ◌+◌, ◌≤◌, eqb, length};
-ghost use Rattle.names.specs.Writing.{flagsText, hasFlag};
+ghost use Rattle.names.specs.Writing.{flags_text, has_flag};
 ghost use Rattle.names.specs.Inside.{row, separator};
-ghost use Rattle.names_writer.specs.Inside.{clauseAt, clauseLength, nameText, Put};
+ghost use Rattle.names_writer.specs.Inside.{clause_at, clause_length, name_text, Put};
 
 use capabilities::sets::has;
 use line_writer::write_bytes;
@@ -14,7 +14,7 @@ const FIXED_LENGTH: usize = 5;
 // How long the clause of the capability number, whose name has so many bytes behind `cap_`, is at the position at.
 pub(crate) fn clause_length(at: usize, name: usize, held: Sets, number: u64) -> usize
     requires { name ≤ 255 }
-    ensures { result ≡ clauseLength at name held number }
+    ensures { result ≡ clause_length at name held number }
 {
     if has_flag(held, number) {
         return separator_length(at) + FIXED_LENGTH + name + flag_count(held, number);
@@ -24,8 +24,8 @@ pub(crate) fn clause_length(at: usize, name: usize, held: Sets, number: u64) -> 
 
 // The clause of the capability number, which has this name behind `cap_`, into buf at the position at: the position past it.
 pub(crate) fn write_clause(buf: &mut [u8], at: usize, name: &[u8], held: Sets, number: u64) -> usize
-    requires { at + length (clauseAt (eqb at 0) held (row name.now number)) ≤ length buf.old }
-    ensures { Put buf.old at (clauseAt (eqb at 0) held (row name.now number)) buf.new result }
+    requires { at + length (clause_at (eqb at 0) held (row name.now number)) ≤ length buf.old }
+    ensures { Put buf.old at (clause_at (eqb at 0) held (row name.now number)) buf.new result }
 {
     if has_flag(held, number) {
         let p = write_separator(buf, at);
@@ -37,8 +37,8 @@ pub(crate) fn write_clause(buf: &mut [u8], at: usize, name: &[u8], held: Sets, n
 
 // A name, of which these are the bytes behind `cap_`, and `=`.
 fn write_name(buf: &mut [u8], at: usize, name: &[u8]) -> usize
-    requires { at + length (nameText name.now) ≤ length buf.old }
-    ensures { Put buf.old at (nameText name.now) buf.new result }
+    requires { at + length (name_text name.now) ≤ length buf.old }
+    ensures { Put buf.old at (name_text name.now) buf.new result }
 {
     let p = write_bytes(buf, at, b"cap_");
     let q = write_bytes(buf, p, name);
@@ -47,7 +47,7 @@ fn write_name(buf: &mut [u8], at: usize, name: &[u8]) -> usize
 
 // Whether some set has the capability n.
 fn has_flag(held: Sets, n: u64) -> bool
-    ensures { result ≡ hasFlag held n }
+    ensures { result ≡ has_flag held n }
 {
     has(held.effective, n) | (has(held.inheritable, n) | has(held.permitted, n))
 }
@@ -75,8 +75,8 @@ fn separator_length(at: usize) -> usize
 
 // The flags of the capability n, in the order e, i, p.
 fn write_flags(buf: &mut [u8], at: usize, held: Sets, n: u64) -> usize
-    requires { at + length (flagsText held n) ≤ length buf.old }
-    ensures { Put buf.old at (flagsText held n) buf.new result }
+    requires { at + length (flags_text held n) ≤ length buf.old }
+    ensures { Put buf.old at (flags_text held n) buf.new result }
 {
     let p = write_flag(buf, at, has(held.effective, n), b'e');
     let q = write_flag(buf, p, has(held.inheritable, n), b'i');
@@ -84,7 +84,7 @@ fn write_flags(buf: &mut [u8], at: usize, held: Sets, n: u64) -> usize
 }
 
 fn flag_count(held: Sets, n: u64) -> usize
-    ensures { (result ≡ length (flagsText held n)) × (result ≤ 3) }
+    ensures { (result ≡ length (flags_text held n)) × (result ≤ 3) }
 {
     one_if(has(held.effective, n))
         + one_if(has(held.inheritable, n))

@@ -4,8 +4,8 @@
 // argument: no public one has a `requires`. The crate assumes nothing.
 ghost use Rattle.std.specs.Prelude.{◌≡◌, ◌≤◌, length};
 ghost use Rattle.std.proofs.lemmas.List.Edits.{sets};
-ghost use Rattle.names.specs.Names.{capabilityNames};
-ghost use Rattle.names.specs.Writing.{bitsAbove40, namesAnswer, namesBuffer, setsText};
+ghost use Rattle.names.specs.Names.{capability_names};
+ghost use Rattle.names.specs.Writing.{bits_above40, names_answer, names_buffer, sets_text};
 ghost use Rattle.names.specs.Inside.{flat, rows_from};
 
 mod clause;
@@ -20,7 +20,7 @@ use table::ROWS;
 
 // The sets in names at the front of a buffer: 22, then 28, and nothing written, or the text's length.
 pub fn write_names(held: Sets, buf: &mut [u8]) -> Written
-    ensures { (result ≡ namesAnswer held (length buf.old)) × (buf.new ≡ namesBuffer held buf.old) }
+    ensures { (result ≡ names_answer held (length buf.old)) × (buf.new ≡ names_buffer held buf.old) }
 {
     if has_bits_above_40(held) {
         return Written {
@@ -44,7 +44,7 @@ pub fn write_names(held: Sets, buf: &mut [u8]) -> Written
 }
 
 fn has_bits_above_40(held: Sets) -> bool
-    ensures { result ≡ bitsAbove40 held }
+    ensures { result ≡ bits_above40 held }
 {
     sets::outside(
         held.permitted | (held.inheritable | held.effective),
@@ -54,8 +54,8 @@ fn has_bits_above_40(held: Sets) -> bool
 
 // How long the text of the sets is.
 fn text_length(held: Sets, table: &[u8]) -> usize
-    requires { table.now ≡ flat (rows_from 0 capabilityNames) }
-    ensures { (result ≡ length (setsText held)) × (result ≤ 748) }
+    requires { table.now ≡ flat (rows_from 0 capability_names) }
+    ensures { (result ≡ length (sets_text held)) × (result ≤ 748) }
 {
     let mut p: usize = 0;
     let mut row: usize = 0;
@@ -72,8 +72,8 @@ fn text_length(held: Sets, table: &[u8]) -> usize
 
 // The text of the sets into buf, from its front on.
 fn write_clauses(buf: &mut [u8], held: Sets, table: &[u8])
-    requires { (table.now ≡ flat (rows_from 0 capabilityNames)) × (length (setsText held) ≤ length buf.old) }
-    ensures { buf.new ≡ sets buf.old 0 (setsText held) }
+    requires { (table.now ≡ flat (rows_from 0 capability_names)) × (length (sets_text held) ≤ length buf.old) }
+    ensures { buf.new ≡ sets buf.old 0 (sets_text held) }
 {
     let mut p: usize = 0;
     let mut row: usize = 0;

@@ -1,6 +1,6 @@
 // The table that names are written by, a row to each, by number: its length behind `cap_`, its capability's number, its bytes behind `cap_`.
 ghost use Rattle.std.specs.Prelude.{◌≡◌};
-ghost use Rattle.names.specs.Names.{capabilityNames};
+ghost use Rattle.names.specs.Names.{capability_names};
 ghost use Rattle.names.specs.Inside.{flat, rows_from};
 
 // How many rows it has.
@@ -51,7 +51,7 @@ const BY_NUMBER: [u8; 462] = *b"\
     ";
 
 pub(crate) fn by_number() -> [u8; 462]
-    ensures { result ≡ flat (rows_from 0 capabilityNames) }
+    ensures { result ≡ flat (rows_from 0 capability_names) }
 {
     BY_NUMBER
 }

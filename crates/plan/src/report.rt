@@ -1,12 +1,12 @@
 // The report: its length first, then the results' lines and the sheet.
 ghost use Rattle.std.specs.Prelude.{◌≡◌, true, [], ◌∷◌, ◌++◌, ◌+◌, ◌≤◌, length};
 ghost use Rattle.std.proofs.lemmas.List.Edits.{sets};
-ghost use Rattle.format.specs.Sheet.{sheetText};
-ghost use Rattle.format.specs.Report.{resultKinds, report, outcome, buffer};
+ghost use Rattle.format.specs.Sheet.{sheet_text};
+ghost use Rattle.format.specs.Report.{result_kinds, report, outcome, buffer};
 ghost use Rattle.credentials.specs.Validity.{valid};
-ghost use Rattle.hex_tables.specs.Tables.{writingTable};
-ghost use Rattle.line_writer.specs.Inside.{linesPut};
-ghost use Rattle.plan.specs.Inside.{firstAnswers};
+ghost use Rattle.hex_tables.specs.Tables.{writing_table};
+ghost use Rattle.line_writer.specs.Inside.{lines_put};
+ghost use Rattle.plan.specs.Inside.{first_answers};
 
 use codes::{DONE, NO_ROOM, wide};
 use credentials::Credentials;
@@ -27,7 +27,7 @@ pub(crate) fn results_length(
     count: usize,
 ) -> usize
     requires { (length codes.now ≡ 256) × (length values.now ≡ 256) × (length causes.now ≡ 256) × (count ≤ 256) }
-    ensures { (result ≡ length (firstAnswers count codes.now values.now causes.now)) × (result ≤ 20480) }
+    ensures { (result ≡ length (first_answers count codes.now values.now causes.now)) × (result ≤ 20480) }
 {
     let mut n: usize = 0;
     let mut j: usize = 0;
@@ -49,8 +49,8 @@ pub(crate) fn write_results(
     count: usize,
     table: &[u8; 16],
 ) -> usize
-    requires { (length codes.now ≡ 256) × (length values.now ≡ 256) × (length causes.now ≡ 256) × (count ≤ 256) × (table.now ≡ writingTable) × (length (firstAnswers count codes.now values.now causes.now) ≤ length buf.old) }
-    ensures { (result ≡ length (firstAnswers count codes.now values.now causes.now)) × (buf.new ≡ sets buf.old 0 (firstAnswers count codes.now values.now causes.now)) }
+    requires { (length codes.now ≡ 256) × (length values.now ≡ 256) × (length causes.now ≡ 256) × (count ≤ 256) × (table.now ≡ writing_table) × (length (first_answers count codes.now values.now causes.now) ≤ length buf.old) }
+    ensures { (result ≡ length (first_answers count codes.now values.now causes.now)) × (buf.new ≡ sets buf.old 0 (first_answers count codes.now values.now causes.now)) }
 {
     let mut at: usize = 0;
     let mut j: usize = 0;
@@ -73,7 +73,7 @@ fn write_result(
     cause: u64,
     table: &[u8; 16],
 ) -> usize
-    ensures { (result ≡ (linesPut table.now resultKinds (code ∷ value ∷ cause ∷ []) buf.old at).at) × (buf.new ≡ (linesPut table.now resultKinds (code ∷ value ∷ cause ∷ []) buf.old at).buffer) }
+    ensures { (result ≡ (lines_put table.now result_kinds (code ∷ value ∷ cause ∷ []) buf.old at).at) × (buf.new ≡ (lines_put table.now result_kinds (code ∷ value ∷ cause ∷ []) buf.old at).buffer) }
 {
     let p = write_decimal(buf, at, b"code=", code);
     let q = write_hex(buf, p, b"value=", VALUE_DIGITS, value, table);
@@ -90,8 +90,8 @@ pub(crate) fn write_report(
     last: Credentials,
     table: &[u8; 16],
 ) -> Outcome
-    requires { (length codes.now ≡ 256) × (length values.now ≡ 256) × (length causes.now ≡ 256) × (count ≤ 256) × (table.now ≡ writingTable) × (valid last ≡ true) }
-    ensures { (result ≡ outcome (report (firstAnswers count codes.now values.now causes.now ++ sheetText last)) (length buf.old)) × (buf.new ≡ buffer (report (firstAnswers count codes.now values.now causes.now ++ sheetText last)) buf.old) }
+    requires { (length codes.now ≡ 256) × (length values.now ≡ 256) × (length causes.now ≡ 256) × (count ≤ 256) × (table.now ≡ writing_table) × (valid last ≡ true) }
+    ensures { (result ≡ outcome (report (first_answers count codes.now values.now causes.now ++ sheet_text last)) (length buf.old)) × (buf.new ≡ buffer (report (first_answers count codes.now values.now causes.now ++ sheet_text last)) buf.old) }
 {
     let size = results_length(codes, values, causes, count) + sheet_writer::sheet_length(last);
     if size <= buf.len() {

@@ -2,10 +2,10 @@
 ghost use Rattle.std.specs.Prelude.{◌≡◌, length, drop};
 ghost use Rattle.credentials.specs.Validity.{valid};
 ghost use Rattle.format.specs.Line.{read};
-ghost use Rattle.format.specs.Sheet.{readFront};
+ghost use Rattle.format.specs.Sheet.{read_front};
 ghost use Rattle.format.specs.Report.{verdict, outcome, buffer};
-ghost use Rattle.hex_tables.specs.Tables.{readingTable, writingTable};
-ghost use Rattle.plan.specs.Inside.{ranSteps, seenSteps, StepsEnd};
+ghost use Rattle.hex_tables.specs.Tables.{reading_table, writing_table};
+ghost use Rattle.plan.specs.Inside.{ran_steps, seen_steps, StepsEnd};
 
 use crate::report::write_report;
 use crate::step::{StepRun, run_step};
@@ -34,8 +34,8 @@ fn run_steps(
     causes: &mut [u8; 256],
     table: &[u8; 256],
 ) -> StepsRun
-    requires { (length codes.old ≡ 256) × (length values.old ≡ 256) × (length causes.old ≡ 256) × (table.now ≡ readingTable) }
-    ensures { (seenSteps result codes.new values.new causes.new ≡ ranSteps 256 start (drop first text.now)) × StepsEnd result × (length codes.new ≡ 256) × (length values.new ≡ 256) × (length causes.new ≡ 256) }
+    requires { (length codes.old ≡ 256) × (length values.old ≡ 256) × (length causes.old ≡ 256) × (table.now ≡ reading_table) }
+    ensures { (seen_steps result codes.new values.new causes.new ≡ ran_steps 256 start (drop first text.now)) × StepsEnd result × (length codes.new ≡ 256) × (length values.new ≡ 256) × (length causes.new ≡ 256) }
 {
     let mut held = start;
     let mut at = first;
@@ -89,7 +89,7 @@ fn run_from(
     reading: &[u8; 256],
     writing: &[u8; 16],
 ) -> Outcome
-    requires { (readFront plan.now ≡ read start (drop first plan.now)) × (valid start ≡ accepted) × (reading.now ≡ readingTable) × (writing.now ≡ writingTable) }
+    requires { (read_front plan.now ≡ read start (drop first plan.now)) × (valid start ≡ accepted) × (reading.now ≡ reading_table) × (writing.now ≡ writing_table) }
     ensures { (result ≡ outcome (verdict plan.now) (length report.old)) × (report.new ≡ buffer (verdict plan.now) report.old) }
 {
     let mut codes = [0u8; 256];

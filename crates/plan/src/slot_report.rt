@@ -3,9 +3,9 @@ ghost use Rattle.std.specs.Prelude.{◌≡◌, true, ◌++◌, ℕ, ◌+◌, ◌
 ghost use Rattle.std.proofs.lemmas.List.Edits.{sets};
 ghost use Rattle.credentials.specs.Validity.{valid};
 ghost use Rattle.format.specs.Report.{report, outcome, buffer};
-ghost use Rattle.hex_tables.specs.Tables.{writingTable};
-ghost use Rattle.slot_format.specs.SlotReport.{slotText, tableText};
-ghost use Rattle.plan.specs.Inside.{firstAnswers, UsedValid};
+ghost use Rattle.hex_tables.specs.Tables.{writing_table};
+ghost use Rattle.slot_format.specs.SlotReport.{slot_text, table_text};
+ghost use Rattle.plan.specs.Inside.{first_answers, UsedValid};
 
 use crate::SLOTS;
 use crate::report::{results_length, write_results};
@@ -20,14 +20,14 @@ const SLOT_LINE_LENGTH: usize = 6;
 
 // How long the line and the sheet of a slot are.
 fn slot_length(slot: usize, held: Credentials) -> usize
-    ensures { (result ≡ length (slotText slot held)) × (result ≤ 390) }
+    ensures { (result ≡ length (slot_text slot held)) × (result ≤ 390) }
 {
     SLOT_LINE_LENGTH + decimal_length(slot as u64) + sheet_writer::sheet_length(held)
 }
 
 // How long the lines and sheets of all slots in use are.
 fn slots_length(table: Threads) -> usize
-    ensures { (result ≡ length (tableText table)) × (result ≤ 37440) }
+    ensures { (result ≡ length (table_text table)) × (result ≤ 37440) }
 {
     let mut n: usize = 0;
     let mut i: usize = 0;
@@ -52,8 +52,8 @@ fn write_slot(
     held: Credentials,
     writing: &[u8; 16],
 ) -> usize
-    requires { (valid held ≡ true) × (writing.now ≡ writingTable) × (at + length (slotText slot held) ≤ length buf.old) × (at + length (slotText slot held) ≤ 65535) }
-    ensures { (result ≡ at + length (slotText slot held)) × (buf.new ≡ sets buf.old at (slotText slot held)) }
+    requires { (valid held ≡ true) × (writing.now ≡ writing_table) × (at + length (slot_text slot held) ≤ length buf.old) × (at + length (slot_text slot held) ≤ 65535) }
+    ensures { (result ≡ at + length (slot_text slot held)) × (buf.new ≡ sets buf.old at (slot_text slot held)) }
 {
     let past = write_decimal(buf, at, b"slot=", slot as u64);
     let sheet = sheet_writer::write_at(buf, past, held, writing);
@@ -62,8 +62,8 @@ fn write_slot(
 
 // The lines and sheets of all slots in use, whose credentials are valid, into buf from the position at on: the position past them.
 fn write_slots(buf: &mut [u8], at: usize, table: Threads, writing: &[u8; 16]) -> usize
-    requires { UsedValid table × (writing.now ≡ writingTable) × (at + length (tableText table) ≤ length buf.old) × (at + length (tableText table) ≤ 65535) }
-    ensures { (result ≡ at + length (tableText table)) × (buf.new ≡ sets buf.old at (tableText table)) }
+    requires { UsedValid table × (writing.now ≡ writing_table) × (at + length (table_text table) ≤ length buf.old) × (at + length (table_text table) ≤ 65535) }
+    ensures { (result ≡ at + length (table_text table)) × (buf.new ≡ sets buf.old at (table_text table)) }
 {
     let mut past = at;
     let mut i: usize = 0;
@@ -90,8 +90,8 @@ pub(crate) fn write_slot_report(
     table: Threads,
     writing: &[u8; 16],
 ) -> Outcome
-    requires { (length codes.now ≡ 256) × (length values.now ≡ 256) × (length causes.now ≡ 256) × (count ≤ 256) × (writing.now ≡ writingTable) × UsedValid table }
-    ensures { (result ≡ outcome (report (firstAnswers count codes.now values.now causes.now ++ tableText table)) (length buf.old)) × (buf.new ≡ buffer (report (firstAnswers count codes.now values.now causes.now ++ tableText table)) buf.old) }
+    requires { (length codes.now ≡ 256) × (length values.now ≡ 256) × (length causes.now ≡ 256) × (count ≤ 256) × (writing.now ≡ writing_table) × UsedValid table }
+    ensures { (result ≡ outcome (report (first_answers count codes.now values.now causes.now ++ table_text table)) (length buf.old)) × (buf.new ≡ buffer (report (first_answers count codes.now values.now causes.now ++ table_text table)) buf.old) }
 {
     let size = results_length(codes, values, causes, count) + slots_length(table);
     if size <= buf.len() {

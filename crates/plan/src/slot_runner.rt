@@ -2,12 +2,12 @@
 ghost use Rattle.std.specs.Prelude.{◌≡◌, ◌≤◌, length, drop};
 ghost use Rattle.credentials.specs.Validity.{valid};
 ghost use Rattle.format.specs.Line.{read};
-ghost use Rattle.format.specs.Sheet.{readFront};
+ghost use Rattle.format.specs.Sheet.{read_front};
 ghost use Rattle.format.specs.Report.{outcome, buffer};
-ghost use Rattle.hex_tables.specs.Tables.{readingTable, writingTable};
-ghost use Rattle.slot_format.specs.SlotReport.{slotVerdict};
+ghost use Rattle.hex_tables.specs.Tables.{reading_table, writing_table};
+ghost use Rattle.slot_format.specs.SlotReport.{slot_verdict};
 ghost use Rattle.threads.specs.Table.{fresh};
-ghost use Rattle.plan.specs.Inside.{ranSlotSteps, seenSlotSteps};
+ghost use Rattle.plan.specs.Inside.{ran_slot_steps, seen_slot_steps};
 
 use crate::runner::refused;
 use crate::slot_report::write_slot_report;
@@ -40,8 +40,8 @@ fn run_slot_steps(
     causes: &mut [u8; 256],
     reading: &[u8; 256],
 ) -> SlotStepsRun
-    requires { (length codes.old ≡ 256) × (length values.old ≡ 256) × (length causes.old ≡ 256) × (reading.now ≡ readingTable) }
-    ensures { (seenSlotSteps result codes.new values.new causes.new ≡ ranSlotSteps 256 (fresh start) (drop first text.now)) × (result.count ≤ 256) × (result.line ≤ 1537) × (length codes.new ≡ 256) × (length values.new ≡ 256) × (length causes.new ≡ 256) }
+    requires { (length codes.old ≡ 256) × (length values.old ≡ 256) × (length causes.old ≡ 256) × (reading.now ≡ reading_table) }
+    ensures { (seen_slot_steps result codes.new values.new causes.new ≡ ran_slot_steps 256 (fresh start) (drop first text.now)) × (result.count ≤ 256) × (result.line ≤ 1537) × (length codes.new ≡ 256) × (length values.new ≡ 256) × (length causes.new ≡ 256) }
 {
     let mut table = slots::fresh(start);
     let mut at = first;
@@ -89,7 +89,7 @@ fn run_slot_steps(
 
 // The slot plan's report in the buffer, or a refusal that leaves it as it was.
 pub fn run_slot_plan(plan: &[u8], report: &mut [u8]) -> Outcome
-    ensures { (result ≡ outcome (slotVerdict plan.now) (length report.old)) × (report.new ≡ buffer (slotVerdict plan.now) report.old) }
+    ensures { (result ≡ outcome (slot_verdict plan.now) (length report.old)) × (report.new ≡ buffer (slot_verdict plan.now) report.old) }
 {
     let reading = reading_table();
     let writing = writing_table();
@@ -114,8 +114,8 @@ fn run_slots_from(
     reading: &[u8; 256],
     writing: &[u8; 16],
 ) -> Outcome
-    requires { (readFront plan.now ≡ read start (drop first plan.now)) × (valid start ≡ accepted) × (reading.now ≡ readingTable) × (writing.now ≡ writingTable) }
-    ensures { (result ≡ outcome (slotVerdict plan.now) (length report.old)) × (report.new ≡ buffer (slotVerdict plan.now) report.old) }
+    requires { (read_front plan.now ≡ read start (drop first plan.now)) × (valid start ≡ accepted) × (reading.now ≡ reading_table) × (writing.now ≡ writing_table) }
+    ensures { (result ≡ outcome (slot_verdict plan.now) (length report.old)) × (report.new ≡ buffer (slot_verdict plan.now) report.old) }
 {
     let mut codes = [0u8; 256];
     let mut values = [0u64; 256];

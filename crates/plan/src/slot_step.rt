@@ -1,9 +1,9 @@
 // One step of a slot plan: its six lines read, and its turn taken.
 ghost use Rattle.std.specs.Prelude.{◌≡◌, ◌≤◌, length, take, drop};
-ghost use Rattle.slot_format.specs.SlotPlan.{readSlotStep};
+ghost use Rattle.slot_format.specs.SlotPlan.{read_slot_step};
 ghost use Rattle.slots.specs.Turn.{step_of, turn_of};
-ghost use Rattle.hex_tables.specs.Tables.{readingTable};
-ghost use Rattle.plan.specs.Inside.{seenSlotStep, SlotStepEnd};
+ghost use Rattle.hex_tables.specs.Tables.{reading_table};
+ghost use Rattle.plan.specs.Inside.{seen_slot_step, SlotStepEnd};
 
 use crate::step::read_operands;
 use credentials::Credentials;
@@ -28,8 +28,8 @@ pub(crate) struct SlotLines {
 
 // The step at the position at, read.
 pub(crate) fn read_slot_step(text: &[u8], at: usize, table: &[u8; 256]) -> SlotLines
-    requires { table.now ≡ readingTable }
-    ensures { (seenSlotStep result text.now ≡ readSlotStep (drop at text.now)) × SlotStepEnd result }
+    requires { table.now ≡ reading_table }
+    ensures { (seen_slot_step result text.now ≡ read_slot_step (drop at text.now)) × SlotStepEnd result }
 {
     let start = Place {
         at,

@@ -8,6 +8,6 @@ cond_cases P true x y f g = f refl
 cond_cases P false x y f g = g refl
 
 -- and where the claim is about the test too
-pub cond-with : {A : Type 0} (P : Bool → A → Type 0) (t : Bool) (x y : A) → P true x → P false y → P t (cond t x y)
-cond-with P true x y f g = f
-cond-with P false x y f g = g
+pub cond_with : {A : Type 0} (P : Bool → A → Type 0) (t : Bool) (x y : A) → P true x → P false y → P t (cond t x y)
+cond_with P true x y f g = f
+cond_with P false x y f g = g

@@ -7,13 +7,13 @@ use native.Mathlib.Decide.{dec_lt}
 use native.Mathlib.Omega.{arith}
 use lib.ListN.{length}
 use Rattle.capabilities.specs.Sets.{has, minus, outside, single}
-use Rattle.capabilities.specs.Header.{CAP-SETUID}
-use Rattle.credentials.specs.Validity.{idsInRange, valid}
+use Rattle.capabilities.specs.Header.{CAP_SETUID}
+use Rattle.credentials.specs.Validity.{ids_in_range, valid}
 use Rattle.credentials.specs.declared.Ids.{Ids}
 use Rattle.credentials.specs.declared.Credentials.{Credentials}
-use Rattle.credentials.proofs.Valid.{ids-in-range, valid-facts}
+use Rattle.credentials.proofs.Valid.{ids_in_range_lem, valid_facts}
 use Rattle.rules.specs.Answers.{after, cause, code, value}
-use Rattle.rules.specs.Ids.{filesystemGroupIdChanged, filesystemUserIdChanged, groupIdsChanged, maySetAnyGroupId, maySetAnyUserId, setfsgid, setfsuid, setfsuidOn, setgid, setregid, setresgid, setresuid, setresuidOn, setreuid, setreuidOn, setuid, setuidOn, userIdsChanged}
+use Rattle.rules.specs.Ids.{filesystem_group_id_changed, filesystem_user_id_changed, group_ids_changed, may_set_any_group_id, may_set_any_user_id, setfsgid, setfsuid, setfsuid_on, setgid, setregid, setresgid, setresuid, setresuid_on, setreuid, setreuid_on, setuid, setuid_on, user_ids_changed}
 use Rattle.rules.specs.Decoding.{decode, known}
 use Rattle.rules.specs.Call.{answer, decoded, performed}
 use Rattle.rules.specs.Run.{Step, result}
@@ -30,8 +30,8 @@ use Rattle.rules.proofs.OneCall.{answered}
 -- ---- one of four numbers
 
 -- what holds of four numbers in a row holds of each one from the first to the last
-one-of-four : (P : ℕ → Type 0) (m : ℕ) → P m → P (1 + m) → P (2 + m) → P (3 + m) → (n : ℕ) → m ≤ n → n ≤ 3 + m → P n
-one-of-four P m p q r s n l h = first (dec_lt m n)
+one_of_four : (P : ℕ → Type 0) (m : ℕ) → P m → P (1 + m) → P (2 + m) → P (3 + m) → (n : ℕ) → m ≤ n → n ≤ 3 + m → P n
+one_of_four P m p q r s n l h = first (dec_lt m n)
   where
     is : (k : ℕ) → n ≡ k → P k → P n
     is k e = subst P (sym e)
@@ -61,44 +61,44 @@ module _ (c : Credentials) where
   abbrev same : GroupIdsOnly c c
   same = record { sets = refl; uids = refl; securebits = refl; nnp = refl }
 
-  group-ids-only : (n : NewIds) → GroupIdsOnly c (after c (groupIdsChanged c n))
-  group-ids-only (Allowed new) = record { sets = refl; uids = refl; securebits = refl; nnp = refl }
-  group-ids-only NotAllowed = same
+  group_ids_only : (n : NewIds) → GroupIdsOnly c (after c (group_ids_changed c n))
+  group_ids_only (Allowed new) = record { sets = refl; uids = refl; securebits = refl; nnp = refl }
+  group_ids_only NotAllowed = same
 
-  filesystem-group-id-only : (n : NewIds) → GroupIdsOnly c (after c (filesystemGroupIdChanged c n))
-  filesystem-group-id-only (Allowed new) = record { sets = refl; uids = refl; securebits = refl; nnp = refl }
-  filesystem-group-id-only NotAllowed = same
+  filesystem_group_id_only : (n : NewIds) → GroupIdsOnly c (after c (filesystem_group_id_changed c n))
+  filesystem_group_id_only (Allowed new) = record { sets = refl; uids = refl; securebits = refl; nnp = refl }
+  filesystem_group_id_only NotAllowed = same
 
-  no-group-id : (n : NewIds) → (after c (userIdsChanged c n)).gids ≡ c.gids
-  no-group-id (Allowed new) = refl
-  no-group-id NotAllowed = refl
+  no_group_id : (n : NewIds) → (after c (user_ids_changed c n)).gids ≡ c.gids
+  no_group_id (Allowed new) = refl
+  no_group_id NotAllowed = refl
 
-  no-filesystem-group-id : (n : NewIds) → (after c (filesystemUserIdChanged c n)).gids ≡ c.gids
-  no-filesystem-group-id (Allowed new) = refl
-  no-filesystem-group-id NotAllowed = refl
+  no_filesystem_group_id : (n : NewIds) → (after c (filesystem_user_id_changed c n)).gids ≡ c.gids
+  no_filesystem_group_id (Allowed new) = refl
+  no_filesystem_group_id NotAllowed = refl
 
   module _ (x y z : ℕ) (s : List ℕ) where
-    on-group-ids : (number : ℕ) → 19 ≤ number → number ≤ 22 → GroupIdsOnly c (after c (answer c number x y z s))
+    on_group_ids : (number : ℕ) → 19 ≤ number → number ≤ 22 → GroupIdsOnly c (after c (answer c number x y z s))
     unfolding decode setgid setregid setresgid setfsgid
-    on-group-ids =
+    on_group_ids =
         let P : Answer → Type 0 = λ r. GroupIdsOnly c (after c r) in
-        let any = maySetAnyGroupId c in
-        one-of-four (λ number. P (answer c number x y z s)) 19
-        (answered P c same same 19 x y z s _ (Setgid x) refl (group-ids-only (setuidOn any c.gids x)))
-        (answered P c same same 20 x y z s _ (Setregid x y) refl (group-ids-only (setreuidOn any c.gids x y)))
-        (answered P c same same 21 x y z s _ (Setresgid x y z) refl (group-ids-only (setresuidOn any c.gids x y z)))
-        (answered P c same same 22 x y z s _ (Setfsgid x) refl (filesystem-group-id-only (setfsuidOn any c.gids x)))
+        let any = may_set_any_group_id c in
+        one_of_four (λ number. P (answer c number x y z s)) 19
+        (answered P c same same 19 x y z s _ (Setgid x) refl (group_ids_only (setuid_on any c.gids x)))
+        (answered P c same same 20 x y z s _ (Setregid x y) refl (group_ids_only (setreuid_on any c.gids x y)))
+        (answered P c same same 21 x y z s _ (Setresgid x y z) refl (group_ids_only (setresuid_on any c.gids x y z)))
+        (answered P c same same 22 x y z s _ (Setfsgid x) refl (filesystem_group_id_only (setfsuid_on any c.gids x)))
 
-    on-user-ids : (number : ℕ) → 15 ≤ number → number ≤ 18 → (after c (answer c number x y z s)).gids ≡ c.gids
+    on_user_ids : (number : ℕ) → 15 ≤ number → number ≤ 18 → (after c (answer c number x y z s)).gids ≡ c.gids
     unfolding decode setuid setreuid setresuid setfsuid
-    on-user-ids =
+    on_user_ids =
         let P : Answer → Type 0 = λ r. (after c r).gids ≡ c.gids in
-        let any = maySetAnyUserId c in
-        one-of-four (λ number. P (answer c number x y z s)) 15
-        (answered P c refl refl 15 x y z s _ (Setuid x) refl (no-group-id (setuidOn any c.uids x)))
-        (answered P c refl refl 16 x y z s _ (Setreuid x y) refl (no-group-id (setreuidOn any c.uids x y)))
-        (answered P c refl refl 17 x y z s _ (Setresuid x y z) refl (no-group-id (setresuidOn any c.uids x y z)))
-        (answered P c refl refl 18 x y z s _ (Setfsuid x) refl (no-filesystem-group-id (setfsuidOn any c.uids x)))
+        let any = may_set_any_user_id c in
+        one_of_four (λ number. P (answer c number x y z s)) 15
+        (answered P c refl refl 15 x y z s _ (Setuid x) refl (no_group_id (setuid_on any c.uids x)))
+        (answered P c refl refl 16 x y z s _ (Setreuid x y) refl (no_group_id (setreuid_on any c.uids x y)))
+        (answered P c refl refl 17 x y z s _ (Setresuid x y z) refl (no_group_id (setresuid_on any c.uids x y z)))
+        (answered P c refl refl 18 x y z s _ (Setfsuid x) refl (no_filesystem_group_id (setfsuid_on any c.uids x)))
 
 -- ---- the counterpart
 
@@ -116,26 +116,26 @@ module _ (c d : Credentials) (w : Counterpart c d) where
   invalid : Same InvalidCredentials InvalidCredentials
   invalid = record { codes = refl; values = refl; causes = refl; ids = sym w.ids }
 
-  same-change : (n m : NewIds) → n ≡ m → Same (groupIdsChanged c n) (userIdsChanged d m)
-  same-change n m e = subst (λ (x : NewIds). Same (groupIdsChanged c n) (userIdsChanged d x)) e (either n)
+  same_change : (n m : NewIds) → n ≡ m → Same (group_ids_changed c n) (user_ids_changed d m)
+  same_change n m e = subst (λ (x : NewIds). Same (group_ids_changed c n) (user_ids_changed d x)) e (either n)
     where
-      either : (x : NewIds) → Same (groupIdsChanged c x) (userIdsChanged d x)
+      either : (x : NewIds) → Same (group_ids_changed c x) (user_ids_changed d x)
       either (Allowed new) = record { codes = refl; values = refl; causes = refl; ids = refl }
       either NotAllowed = record { codes = refl; values = refl; causes = refl; ids = sym w.ids }
 
-  same-filesystem-change : (n m : NewIds) → n ≡ m → Same (filesystemGroupIdChanged c n) (filesystemUserIdChanged d m)
-  same-filesystem-change n m e = subst (λ (x : NewIds). Same (filesystemGroupIdChanged c n) (filesystemUserIdChanged d x)) e (either n)
+  same_filesystem_change : (n m : NewIds) → n ≡ m → Same (filesystem_group_id_changed c n) (filesystem_user_id_changed d m)
+  same_filesystem_change n m e = subst (λ (x : NewIds). Same (filesystem_group_id_changed c n) (filesystem_user_id_changed d x)) e (either n)
     where
       old : c.gids.filesystem ≡ d.uids.filesystem
       old = ap (λ (u : Ids). u.filesystem) (sym w.ids)
 
-      either : (x : NewIds) → Same (filesystemGroupIdChanged c x) (filesystemUserIdChanged d x)
+      either : (x : NewIds) → Same (filesystem_group_id_changed c x) (filesystem_user_id_changed d x)
       either (Allowed new) = record { codes = refl; values = old; causes = refl; ids = refl }
       either NotAllowed = record { codes = refl; values = old; causes = refl; ids = sym w.ids }
 
   -- what depends on the four IDs and on whether any may be set is the same of both
-  alike : (f : Bool → Ids → NewIds) → f (maySetAnyGroupId c) c.gids ≡ f (maySetAnyUserId d) d.uids
-  alike f = sym (λ i. f (w.may-set-any i) (w.ids i))
+  alike : (f : Bool → Ids → NewIds) → f (may_set_any_group_id c) c.gids ≡ f (may_set_any_user_id d) d.uids
+  alike f = sym (λ i. f (w.may_set_any i) (w.ids i))
 
   -- two calls that are right alike
   same_answer : (number other x y z : ℕ) (s : List ℕ) (right : Bool) (k l : Call)
@@ -143,7 +143,7 @@ module _ (c d : Credentials) (w : Counterpart c d) where
       → Same (performed c s k) (performed d s l) → Same (answer c number x y z s) (answer d other x y z s)
   unfolding answer known
   same_answer number other x y z s right k l e f h =
-      subst (λ (t : Bool). Same (answer c number x y z s) (cond t (decoded d s (decode other x y z (length s))) InvalidCredentials)) (sym w.valid-alike)
+      subst (λ (t : Bool). Same (answer c number x y z s) (cond t (decoded d s (decode other x y z (length s))) InvalidCredentials)) (sym w.valid_alike)
       (subst (λ (q : Decoded). Same (answer c number x y z s) (cond (valid c) (decoded d s q) InvalidCredentials)) (sym f)
       (subst (λ (q : Decoded). Same (cond (valid c) (decoded c s q) InvalidCredentials) (cond (valid c) (decoded d s (known right l)) InvalidCredentials)) (sym e)
       (judged (valid c) right)))
@@ -154,19 +154,19 @@ module _ (c d : Credentials) (w : Counterpart c d) where
       judged false r = invalid
 
   module _ (x y z : ℕ) (s : List ℕ) where
-    as-user-ids : (number : ℕ) → 19 ≤ number → number ≤ 22 → Same (answer c number x y z s) (answer d (number - 4) x y z s)
+    as_user_ids : (number : ℕ) → 19 ≤ number → number ≤ 22 → Same (answer c number x y z s) (answer d (number - 4) x y z s)
     unfolding decode setuid setreuid setresuid setfsuid setgid setregid setresgid setfsgid
-    as-user-ids =
-        one-of-four (λ number. Same (answer c number x y z s) (answer d (number - 4) x y z s)) 19
-        (same_answer 19 15 x y z s _ (Setgid x) (Setuid x) refl refl (same-change _ _ (alike (λ any u. setuidOn any u x))))
-        (same_answer 20 16 x y z s _ (Setregid x y) (Setreuid x y) refl refl (same-change _ _ (alike (λ any u. setreuidOn any u x y))))
-        (same_answer 21 17 x y z s _ (Setresgid x y z) (Setresuid x y z) refl refl (same-change _ _ (alike (λ any u. setresuidOn any u x y z))))
-        (same_answer 22 18 x y z s _ (Setfsgid x) (Setfsuid x) refl refl (same-filesystem-change _ _ (alike (λ any u. setfsuidOn any u x))))
+    as_user_ids =
+        one_of_four (λ number. Same (answer c number x y z s) (answer d (number - 4) x y z s)) 19
+        (same_answer 19 15 x y z s _ (Setgid x) (Setuid x) refl refl (same_change _ _ (alike (λ any u. setuid_on any u x))))
+        (same_answer 20 16 x y z s _ (Setregid x y) (Setreuid x y) refl refl (same_change _ _ (alike (λ any u. setreuid_on any u x y))))
+        (same_answer 21 17 x y z s _ (Setresgid x y z) (Setresuid x y z) refl refl (same_change _ _ (alike (λ any u. setresuid_on any u x y z))))
+        (same_answer 22 18 x y z s _ (Setfsgid x) (Setfsuid x) refl refl (same_filesystem_change _ _ (alike (λ any u. setfsuid_on any u x))))
 
 -- the thread whose user IDs are these, with SETUID or without, valid or not
 abbrev thread : Bool → Bool → Ids → Credentials
 thread any right u =
-    let held : ℕ = cond any (single CAP-SETUID) 0 in
+    let held : ℕ = cond any (single CAP_SETUID) 0 in
     record {
       uids = u;
       gids = record { real = 0; effective = 0; saved = 0; filesystem = 0 };
@@ -175,53 +175,53 @@ thread any right u =
       nnp = false;
     }
 
-thread-may : (any right : Bool) (u : Ids) → maySetAnyUserId (thread any right u) ≡ any
+thread_may : (any right : Bool) (u : Ids) → may_set_any_user_id (thread any right u) ≡ any
 unfolding has single
-thread-may true right u = refl
-thread-may false right u = refl
+thread_may true right u = refl
+thread_may false right u = refl
 
 -- securebits of 256 are not valid, whatever the IDs
 never : (t : Bool) → t && true && false ≡ false
 never true = refl
 never false = refl
 
-thread-valid : (any right : Bool) (u : Ids) → (right ≡ true → idsInRange u ≡ true) → valid (thread any right u) ≡ right
+thread_valid : (any right : Bool) (u : Ids) → (right ≡ true → ids_in_range u ≡ true) → valid (thread any right u) ≡ right
 unfolding valid outside minus single
-thread-valid true true u h = simp (h refl)
-thread-valid false true u h = simp (h refl)
-thread-valid true false u h = never (idsInRange u)
-thread-valid false false u h = never (idsInRange u)
+thread_valid true true u h = simp (h refl)
+thread_valid false true u h = simp (h refl)
+thread_valid true false u h = never (ids_in_range u)
+thread_valid false false u h = never (ids_in_range u)
 
 -- ---- the statement
 
 stays : (c : Credentials) (x : Step) → OnGroupIds x → GroupIdsOnly c (result c x).after
 unfolding result
-stays c x n = on-group-ids c x.a x.b x.c x.attribute x.number n.0 n.1
+stays c x n = on_group_ids c x.a x.b x.c x.attribute x.number n.0 n.1
 
 like : (c d : Credentials) (w : Counterpart c d) (x : Step) → OnGroupIds x
     → Same c d w (answer c x.number x.a x.b x.c x.attribute) (answer d (x.number - 4) x.a x.b x.c x.attribute)
-like c d w x n = as-user-ids c d w x.a x.b x.c x.attribute x.number n.0 n.1
+like c d w x n = as_user_ids c d w x.a x.b x.c x.attribute x.number n.0 n.1
 
-pub calls-on-ids : CallsOnIds
+pub calls_on_ids : CallsOnIds
 unfolding result
-calls-on-ids =
+calls_on_ids =
     record {
-      sets-stay = λ c x n. (stays c x n).sets;
-      user-ids-stay = λ c x n. (stays c x n).uids;
-      securebits-stay = λ c x n. (stays c x n).securebits;
-      no-new-privs-stays = λ c x n. (stays c x n).nnp;
-      group-ids-stay = λ c x n. on-user-ids c x.a x.b x.c x.attribute x.number n.0 n.1;
+      sets_stay = λ c x n. (stays c x n).sets;
+      user_ids_stay = λ c x n. (stays c x n).uids;
+      securebits_stay = λ c x n. (stays c x n).securebits;
+      no_new_privs_stays = λ c x n. (stays c x n).nnp;
+      group_ids_stay = λ c x n. on_user_ids c x.a x.b x.c x.attribute x.number n.0 n.1;
       same_code = λ c d w x n. (like c d w x n).codes;
-      same-value = λ c d w x n. (like c d w x n).values;
-      same-cause = λ c d w x n. (like c d w x n).causes;
-      same-ids = λ c d w x n. (like c d w x n).ids;
+      same_value = λ c d w x n. (like c d w x n).values;
+      same_cause = λ c d w x n. (like c d w x n).causes;
+      same_ids = λ c d w x n. (like c d w x n).ids;
       counterpart = λ c.
-          let any = maySetAnyGroupId c in (
+          let any = may_set_any_group_id c in (
             thread any (valid c) c.gids,
             record {
               ids = refl;
-              may-set-any = thread-may any (valid c) c.gids;
-              valid-alike = thread-valid any (valid c) c.gids (λ v. ids-in-range c.gids (valid-facts c v).gids);
+              may_set_any = thread_may any (valid c) c.gids;
+              valid_alike = thread_valid any (valid c) c.gids (λ v. ids_in_range_lem c.gids (valid_facts c v).gids);
             },
           );
     }

@@ -7,24 +7,24 @@ use lib.Dec.{eqb}
 use borrow.Author.Tests.{eqb-true}
 use Rattle.capabilities.specs.Sets.{full, has, lacks, minus, outside, single}
 use Rattle.attribute.specs.Words.{Bytes, word_at, word_bytes}
-use Rattle.attribute.specs.Reader.{fileOf, length_of, reading, unreadable, version2}
-use Rattle.attribute.specs.Writer.{firstWord, version2Bytes}
+use Rattle.attribute.specs.Reader.{file_of, length_of, reading, unreadable, version2}
+use Rattle.attribute.specs.Writer.{first_word, version2_bytes}
 use Rattle.attribute.proofs.Words.{no_bytes}
-use Rattle.attribute.proofs.ReadBack.{written-bytes}
+use Rattle.attribute.proofs.ReadBack.{written_bytes}
 use Rattle.credentials.specs.Validity.{valid}
 use Rattle.credentials.specs.declared.Ids.{Ids}
 use Rattle.credentials.specs.declared.Credentials.{Credentials}
-use Rattle.rules.specs.Launching.{fallsShort, fileRead, gained, ignoresAttribute, ignoresSetId, launch}
+use Rattle.rules.specs.Launching.{falls_short, file_read, gained, ignores_attribute, ignores_set_id, launch}
 use Rattle.rules.specs.Capset.{capset}
-use Rattle.rules.specs.Bounding.{boundingDrop}
-use Rattle.rules.specs.Ambient.{ambientRaise}
-use Rattle.rules.specs.Securebits.{changesLocked, setSecurebits}
-use Rattle.rules.specs.ThreadFlags.{setKeepCaps}
-use Rattle.rules.specs.Ids.{givenOr, oneOfThree, setgid, setregid, setresgid, setresuid, setresuidAllowed, setresuidIds, setresuidOn, setreuid, setreuidAllowed, setreuidIds, setreuidOn, setreuidSaved, setuid, setuidAllowed, setuidIds, setuidOn}
-use Rattle.rules.specs.Decoding.{decode, known, usesOne}
+use Rattle.rules.specs.Bounding.{bounding_drop}
+use Rattle.rules.specs.Ambient.{ambient_raise}
+use Rattle.rules.specs.Securebits.{changes_locked, set_securebits}
+use Rattle.rules.specs.ThreadFlags.{set_keep_caps}
+use Rattle.rules.specs.Ids.{given_or, one_of_three, setgid, setregid, setresgid, setresuid, setresuid_allowed, setresuid_ids, setresuid_on, setreuid, setreuid_allowed, setreuid_ids, setreuid_on, setreuid_saved, setuid, setuid_allowed, setuid_ids, setuid_on}
+use Rattle.rules.specs.Decoding.{decode, known, uses_one}
 use Rattle.rules.specs.Call.{answer}
 use Rattle.rules.specs.Run.{Step, result}
-use Rattle.rules.specs.WhyRefused.{Occurs, causesOf, isAmong}
+use Rattle.rules.specs.WhyRefused.{Occurs, causes_of, is_among}
 use Rattle.rules.proofs.Conditions.{cond_cases}
 
 -- ---- how the examples are written
@@ -56,82 +56,82 @@ module _ (start : Credentials) (number a b c : ℕ) where
 
   -- the call has that cause, with no attribute
   by : (n : ℕ) → valid start ≡ true → (result start (call [])).cause ≡ n → Occurs number n
-  by n v e = record { start = start; starts-valid = v; step = call []; is_call = refl; bytes = no_bytes; has-cause = e }
+  by n v e = record { start = start; starts_valid = v; step = call []; is_call = refl; bytes = no_bytes; has_cause = e }
 
 -- a launch of a file with the attribute permitted {13}, bit on
-launching : (start : Credentials) (n : ℕ) → valid start ≡ true → (result start (call start 1 0 0 0 (version2Bytes (single 13) 0 true))).cause ≡ n → Occurs 1 n
+launching : (start : Credentials) (n : ℕ) → valid start ≡ true → (result start (call start 1 0 0 0 (version2_bytes (single 13) 0 true))).cause ≡ n → Occurs 1 n
 launching start n v e =
     record {
       start = start;
-      starts-valid = v;
-      step = call start 1 0 0 0 (version2Bytes (single 13) 0 true);
+      starts_valid = v;
+      step = call start 1 0 0 0 (version2_bytes (single 13) 0 true);
       is_call = refl;
-      bytes = written-bytes (single 13) 0 true;
-      has-cause = e;
+      bytes = written_bytes (single 13) 0 true;
+      has_cause = e;
     }
 
 -- ---- the examples: where tests with higher numbers can fail too, they do
 
 record Examples : Type 0 where
-  execve-11 : Occurs 1 11
-  capset-2 : Occurs 2 2
-  capset-3 : Occurs 2 3
-  capset-4 : Occurs 2 4
-  capset-5 : Occurs 2 5
-  drop-1 : Occurs 3 1
-  raise-6 : Occurs 5 6
-  raise-7 : Occurs 5 7
-  securebits-1 : Occurs 9 1
-  securebits-8 : Occurs 9 8
-  securebits-9 : Occurs 9 9
-  keep-caps-9 : Occurs 11 9
-  setuid-10 : Occurs 15 10
-  setreuid-10 : Occurs 16 10
-  setresuid-10 : Occurs 17 10
-  setgid-10 : Occurs 19 10
-  setregid-10 : Occurs 20 10
-  setresgid-10 : Occurs 21 10
+  execve_11 : Occurs 1 11
+  capset_2 : Occurs 2 2
+  capset_3 : Occurs 2 3
+  capset_4 : Occurs 2 4
+  capset_5 : Occurs 2 5
+  drop_1 : Occurs 3 1
+  raise_6 : Occurs 5 6
+  raise_7 : Occurs 5 7
+  securebits_1 : Occurs 9 1
+  securebits_8 : Occurs 9 8
+  securebits_9 : Occurs 9 9
+  keep_caps_9 : Occurs 11 9
+  setuid_10 : Occurs 15 10
+  setreuid_10 : Occurs 16 10
+  setresuid_10 : Occurs 17 10
+  setgid_10 : Occurs 19 10
+  setregid_10 : Occurs 20 10
+  setresgid_10 : Occurs 21 10
 
 examples : Examples
-unfolding has lacks minus single outside word_at word_bytes fileOf length_of reading unreadable version2 firstWord version2Bytes valid ignoresSetId ignoresAttribute fileRead gained fallsShort launch capset boundingDrop ambientRaise changesLocked setSecurebits setKeepCaps givenOr oneOfThree setuidAllowed setuidIds setuidOn setreuidAllowed setreuidSaved setreuidIds setreuidOn setresuidIds setresuidAllowed setresuidOn setuid setreuid setresuid setgid setregid setresgid usesOne known decode answer result
+unfolding has lacks minus single outside word_at word_bytes file_of length_of reading unreadable version2 first_word version2_bytes valid ignores_set_id ignores_attribute file_read gained falls_short launch capset bounding_drop ambient_raise changes_locked set_securebits set_keep_caps given_or one_of_three setuid_allowed setuid_ids setuid_on setreuid_allowed setreuid_saved setreuid_ids setreuid_on setresuid_ids setresuid_allowed setresuid_on setuid setreuid setresuid setgid setregid setresgid uses_one known decode answer result
 examples =
     record {
-      execve-11 = launching (thread 0 0 0 0 0) 11 refl refl;
-      capset-2 = by (thread 0 0 0 0 0) 2 (single 13) (single 13) (single 12) 2 refl refl;
-      capset-3 = by (thread (single 13) 0 0 0 0) 2 (single 12) (single 13) (single 13) 3 refl refl;
-      capset-4 = by poor 2 (single 13) 0 (single 12) 4 refl refl;
-      capset-5 = by poor 2 0 0 (single 13) 5 refl refl;
-      drop-1 = by poor 3 13 0 0 1 refl refl;
-      raise-6 = by (thread 0 0 0 full 64) 5 13 0 0 6 refl refl;
-      raise-7 = by (thread (single 13) (single 13) 0 full 64) 5 13 0 0 7 refl refl;
-      securebits-1 = by (thread 0 0 0 full 2) 9 1 0 0 1 refl refl;
-      securebits-8 = by (able 2) 9 1 0 0 8 refl refl;
-      securebits-9 = by (able 2) 9 3 0 0 9 refl refl;
-      keep-caps-9 = by (thread 0 0 0 full 32) 11 0 0 0 9 refl refl;
-      setuid-10 = by poor 15 0 0 0 10 refl refl;
-      setreuid-10 = by poor 16 0 0 0 10 refl refl;
-      setresuid-10 = by poor 17 0 0 0 10 refl refl;
-      setgid-10 = by poor 19 0 0 0 10 refl refl;
-      setregid-10 = by poor 20 0 0 0 10 refl refl;
-      setresgid-10 = by poor 21 0 0 0 10 refl refl;
+      execve_11 = launching (thread 0 0 0 0 0) 11 refl refl;
+      capset_2 = by (thread 0 0 0 0 0) 2 (single 13) (single 13) (single 12) 2 refl refl;
+      capset_3 = by (thread (single 13) 0 0 0 0) 2 (single 12) (single 13) (single 13) 3 refl refl;
+      capset_4 = by poor 2 (single 13) 0 (single 12) 4 refl refl;
+      capset_5 = by poor 2 0 0 (single 13) 5 refl refl;
+      drop_1 = by poor 3 13 0 0 1 refl refl;
+      raise_6 = by (thread 0 0 0 full 64) 5 13 0 0 6 refl refl;
+      raise_7 = by (thread (single 13) (single 13) 0 full 64) 5 13 0 0 7 refl refl;
+      securebits_1 = by (thread 0 0 0 full 2) 9 1 0 0 1 refl refl;
+      securebits_8 = by (able 2) 9 1 0 0 8 refl refl;
+      securebits_9 = by (able 2) 9 3 0 0 9 refl refl;
+      keep_caps_9 = by (thread 0 0 0 full 32) 11 0 0 0 9 refl refl;
+      setuid_10 = by poor 15 0 0 0 10 refl refl;
+      setreuid_10 = by poor 16 0 0 0 10 refl refl;
+      setresuid_10 = by poor 17 0 0 0 10 refl refl;
+      setgid_10 = by poor 19 0 0 0 10 refl refl;
+      setregid_10 = by poor 20 0 0 0 10 refl refl;
+      setresgid_10 = by poor 21 0 0 0 10 refl refl;
     }
 
 -- ---- any number and any cause of its own
 
 module _ (number n : ℕ) where
   abbrev Met : List ℕ → Type 0
-  Met ms = isAmong n ms ≡ true → Occurs number n
+  Met ms = is_among n ms ≡ true → Occurs number n
 
   none : Met []
-  unfolding isAmong
+  unfolding is_among
   none h = absurd (true≢false (sym h))
 
   -- the first of some, or one of the others
   or_else : (m : ℕ) (ms : List ℕ) → Occurs number m → Met ms → Met (m ∷ ms)
-  unfolding isAmong
+  unfolding is_among
   or_else m ms o others = decided (eqb n m) refl
     where
-      decided : (t : Bool) → eqb n m ≡ t → t || isAmong n ms ≡ true → Occurs number n
+      decided : (t : Bool) → eqb n m ≡ t → t || is_among n ms ≡ true → Occurs number n
       decided true e h = subst (Occurs number) (sym (eqb-true n m e)) o
       decided false e h = others h
 
@@ -142,24 +142,24 @@ module _ (number n : ℕ) where
   only : (k m : ℕ) → Occurs k m → (others : List ℕ) → Met others → Met (cond (eqb number k) (m ∷ []) others)
   only k m o others g = cond_cases Met (eqb number k) _ _ (λ t. or_else m [] (at k o t) none) (λ t. g)
 
-  pub each-occurs : Met (causesOf number)
-  unfolding causesOf
-  each-occurs =
-      only 1 11 examples.execve-11 _
+  pub each_occurs : Met (causes_of number)
+  unfolding causes_of
+  each_occurs =
+      only 1 11 examples.execve_11 _
       (cond_cases Met (eqb number 2) _ _
-      (λ t. or_else 2 _ (at 2 examples.capset-2 t)
-      (or_else 3 _ (at 2 examples.capset-3 t) (or_else 4 _ (at 2 examples.capset-4 t) (or_else 5 [] (at 2 examples.capset-5 t) none))))
-      (λ t. only 3 1 examples.drop-1 _
+      (λ t. or_else 2 _ (at 2 examples.capset_2 t)
+      (or_else 3 _ (at 2 examples.capset_3 t) (or_else 4 _ (at 2 examples.capset_4 t) (or_else 5 [] (at 2 examples.capset_5 t) none))))
+      (λ t. only 3 1 examples.drop_1 _
       (cond_cases Met (eqb number 5) _ _
-      (λ t. or_else 6 _ (at 5 examples.raise-6 t) (or_else 7 [] (at 5 examples.raise-7 t) none))
+      (λ t. or_else 6 _ (at 5 examples.raise_6 t) (or_else 7 [] (at 5 examples.raise_7 t) none))
       (λ t. cond_cases Met (eqb number 9) _ _
-      (λ t. or_else 1 _ (at 9 examples.securebits-1 t)
-      (or_else 8 _ (at 9 examples.securebits-8 t) (or_else 9 [] (at 9 examples.securebits-9 t) none)))
-      (λ t. only 11 9 examples.keep-caps-9 _
-      (only 15 10 examples.setuid-10 _
-      (only 16 10 examples.setreuid-10 _
-      (only 17 10 examples.setresuid-10 _
-      (only 19 10 examples.setgid-10 _
-      (only 20 10 examples.setregid-10 _
-      (only 21 10 examples.setresgid-10 _
+      (λ t. or_else 1 _ (at 9 examples.securebits_1 t)
+      (or_else 8 _ (at 9 examples.securebits_8 t) (or_else 9 [] (at 9 examples.securebits_9 t) none)))
+      (λ t. only 11 9 examples.keep_caps_9 _
+      (only 15 10 examples.setuid_10 _
+      (only 16 10 examples.setreuid_10 _
+      (only 17 10 examples.setresuid_10 _
+      (only 19 10 examples.setgid_10 _
+      (only 20 10 examples.setregid_10 _
+      (only 21 10 examples.setresgid_10 _
       none)))))))))))

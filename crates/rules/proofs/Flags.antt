@@ -4,7 +4,7 @@ use mathlib.Core.Bool.{Bool, true, false}
 use mir.Val.{bool_byte}
 use Rattle.rules.specs.Fields.{number}
 
-pub cast-is-number : (flag : Bool) → bool_byte flag ≡ number flag
+pub cast_is_number : (flag : Bool) → bool_byte flag ≡ number flag
 unfolding number
-cast-is-number true = refl
-cast-is-number false = refl
+cast_is_number true = refl
+cast_is_number false = refl

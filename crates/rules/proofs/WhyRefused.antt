@@ -11,18 +11,18 @@ use Rattle.attribute.specs.declared.Reading.{Reading}
 use Rattle.attribute.specs.declared.Reading.TheVariants.{File, Unreadable}
 use Rattle.credentials.specs.Validity.{valid}
 use Rattle.credentials.specs.declared.Credentials.{Credentials}
-use Rattle.rules.specs.Answers.{cause, causeNumber, code}
-use Rattle.rules.specs.Launching.{fileRead, launch, launchOf}
+use Rattle.rules.specs.Answers.{cause, cause_number, code}
+use Rattle.rules.specs.Launching.{file_read, launch, launch_of}
 use Rattle.rules.specs.Capset.{capset}
-use Rattle.rules.specs.Bounding.{boundingDrop, boundingRead}
-use Rattle.rules.specs.Ambient.{ambientClearAll, ambientIsSet, ambientLower, ambientRaise}
-use Rattle.rules.specs.Securebits.{getSecurebits, setSecurebits}
-use Rattle.rules.specs.ThreadFlags.{getKeepCaps, getNoNewPrivs, setKeepCaps, setNoNewPrivs}
-use Rattle.rules.specs.Ids.{filesystemGroupIdChanged, filesystemUserIdChanged, groupIdsChanged, maySetAnyGroupId, maySetAnyUserId, setfsgid, setfsuid, setfsuidOn, setgid, setregid, setresgid, setresuid, setresuidOn, setreuid, setreuidOn, setuid, setuidOn, userIdsChanged}
+use Rattle.rules.specs.Bounding.{bounding_drop, bounding_read}
+use Rattle.rules.specs.Ambient.{ambient_clear_all, ambient_is_set, ambient_lower, ambient_raise}
+use Rattle.rules.specs.Securebits.{get_securebits, set_securebits}
+use Rattle.rules.specs.ThreadFlags.{get_keep_caps, get_no_new_privs, set_keep_caps, set_no_new_privs}
+use Rattle.rules.specs.Ids.{filesystem_group_id_changed, filesystem_user_id_changed, group_ids_changed, may_set_any_group_id, may_set_any_user_id, setfsgid, setfsuid, setfsuid_on, setgid, setregid, setresgid, setresuid, setresuid_on, setreuid, setreuid_on, setuid, setuid_on, user_ids_changed}
 use Rattle.rules.specs.Decoding.{decode, known}
 use Rattle.rules.specs.Call.{answer, decoded, performed}
 use Rattle.rules.specs.Run.{Step, result}
-use Rattle.rules.specs.WhyRefused.{Test, WhyRefused, asked, causesOf, failing, isAmong, lowest, lowestWith, notAllowed, oneFails, readFallsShort, tests, testsOf}
+use Rattle.rules.specs.WhyRefused.{Test, WhyRefused, asked, causes_of, failing, is_among, lowest, lowest_with, not_allowed, one_fails, read_falls_short, tests, tests_of}
 use Rattle.rules.specs.declared.Answer.{Answer}
 use Rattle.rules.specs.declared.Answer.TheVariants.{Done, InvalidArgument, InvalidCredentials, NotPermitted, UnreadableAttribute}
 use Rattle.rules.specs.declared.Call.{Call}
@@ -34,51 +34,51 @@ use Rattle.rules.specs.declared.Decoded.TheVariants.{Known, Unknown}
 use Rattle.rules.specs.declared.NewIds.{NewIds}
 use Rattle.rules.specs.declared.NewIds.TheVariants.{Allowed, NotAllowed}
 use Rattle.rules.proofs.Conditions.{cond_cases}
-use Rattle.rules.proofs.EachCause.{each-occurs}
+use Rattle.rules.proofs.EachCause.{each_occurs}
 
 -- ---- the lowest of ordered tests
 
 -- a number is at most each test's
-unfoldable isBelow : ℕ → List Test → Bool
-isBelow n [] = true
-isBelow n (t ∷ ts) = leb n t.number && isBelow n ts
+unfoldable is_below : ℕ → List Test → Bool
+is_below n [] = true
+is_below n (t ∷ ts) = leb n t.number && is_below n ts
 
-below-first : (n : ℕ) (t : Test) (ts : List Test) → isBelow n (t ∷ ts) ≡ true → n ≤ t.number
-unfolding isBelow
-below-first n t ts h = leb-true n t.number (and_l (leb n t.number) (isBelow n ts) h)
+below_first : (n : ℕ) (t : Test) (ts : List Test) → is_below n (t ∷ ts) ≡ true → n ≤ t.number
+unfolding is_below
+below_first n t ts h = leb-true n t.number (and_l (leb n t.number) (is_below n ts) h)
 
-below_rest : (n : ℕ) (t : Test) (ts : List Test) → isBelow n (t ∷ ts) ≡ true → isBelow n ts ≡ true
-unfolding isBelow
-below_rest n t ts h = and_r (leb n t.number) (isBelow n ts) h
+below_rest : (n : ℕ) (t : Test) (ts : List Test) → is_below n (t ∷ ts) ≡ true → is_below n ts ≡ true
+unfolding is_below
+below_rest n t ts h = and_r (leb n t.number) (is_below n ts) h
 
 -- then it is lowest with any of them
-stays-lowest : (n : ℕ) (ts : List Test) → isBelow n ts ≡ true → lowestWith n (failing ts) ≡ n
-unfolding failing lowestWith
-stays-lowest n [] h = refl
-stays-lowest n (t ∷ ts) h =
-    let rest = stays-lowest n ts (below_rest n t ts h) in
-    cond_cases (λ (ms : List ℕ). lowestWith n ms ≡ n) t.fails _ _
-    (λ f. subst (λ (b : Bool). lowestWith (cond b t.number n) (failing ts) ≡ n) (sym (le-ltb t.number n (below-first n t ts h))) rest)
+stays_lowest : (n : ℕ) (ts : List Test) → is_below n ts ≡ true → lowest_with n (failing ts) ≡ n
+unfolding failing lowest_with
+stays_lowest n [] h = refl
+stays_lowest n (t ∷ ts) h =
+    let rest = stays_lowest n ts (below_rest n t ts h) in
+    cond_cases (λ (ms : List ℕ). lowest_with n ms ≡ n) t.fails _ _
+    (λ f. subst (λ (b : Bool). lowest_with (cond b t.number n) (failing ts) ≡ n) (sym (le-ltb t.number n (below_first n t ts h))) rest)
     (λ f. rest)
 
 -- ---- what the statement says of an answer, the tests of its call and the causes that are the call's own
 
 record Told (own : List ℕ) (ts : List Test) (r : Answer) : Type 0 where
-  refused : eqb (code r) 1 ≡ oneFails ts
-  lowest-number : cause r ≡ lowest (failing ts)
-  among : eqb (code r) 1 ≡ true → isAmong (cause r) own ≡ true
+  refused : eqb (code r) 1 ≡ one_fails ts
+  lowest_number : cause r ≡ lowest (failing ts)
+  among : eqb (code r) 1 ≡ true → is_among (cause r) own ≡ true
 
 -- a test before others whose numbers are no lower
-first : {own : List ℕ} {ts : List Test} {r : Answer} (why : Cause) (t : Bool) → isBelow (causeNumber why) ts ≡ true
-    → isAmong (causeNumber why) own ≡ true → Told own ts r → Told own (record { number = causeNumber why; fails = t } ∷ ts) (cond t (NotPermitted why) r)
-unfolding failing oneFails
-first why true h m k = record { refused = refl; lowest-number = sym (stays-lowest (causeNumber why) _ h); among = λ e. m }
-first why false h m k = record { refused = k.refused; lowest-number = k.lowest-number; among = k.among }
+first : {own : List ℕ} {ts : List Test} {r : Answer} (why : Cause) (t : Bool) → is_below (cause_number why) ts ≡ true
+    → is_among (cause_number why) own ≡ true → Told own ts r → Told own (record { number = cause_number why; fails = t } ∷ ts) (cond t (NotPermitted why) r)
+unfolding failing one_fails
+first why true h m k = record { refused = refl; lowest_number = sym (stays_lowest (cause_number why) _ h); among = λ e. m }
+first why false h m k = record { refused = k.refused; lowest_number = k.lowest_number; among = k.among }
 
 -- a call that has passed its tests, or has none
 passed : {own : List ℕ} {v : ℕ} {d : Credentials} → Told own [] (Done v d)
-unfolding failing oneFails
-passed = record { refused = refl; lowest-number = refl; among = λ e. absurd (true≢false (sym e)) }
+unfolding failing one_fails
+passed = record { refused = refl; lowest_number = refl; among = λ e. absurd (true≢false (sym e)) }
 
 -- ---- each call
 
@@ -108,37 +108,37 @@ number_of (Setresgid r e s) = 21
 number_of (Setfsgid id) = 22
 
 -- an ID call's one test
-abbrev onIds : NewIds → List Test
-onIds n = record { number = 10; fails = notAllowed n } ∷ []
+abbrev on_ids : NewIds → List Test
+on_ids n = record { number = 10; fails = not_allowed n } ∷ []
 
 module _ (c : Credentials) (s : List ℕ) where
-  user-ids-told : (n : NewIds) → Told (10 ∷ []) (onIds n) (userIdsChanged c n)
-  unfolding isBelow isAmong
-  user-ids-told (Allowed new) = first IdNotAllowed false refl refl passed
-  user-ids-told NotAllowed = first {r = Done 0 c} IdNotAllowed true refl refl passed
+  user_ids_told : (n : NewIds) → Told (10 ∷ []) (on_ids n) (user_ids_changed c n)
+  unfolding is_below is_among
+  user_ids_told (Allowed new) = first IdNotAllowed false refl refl passed
+  user_ids_told NotAllowed = first {r = Done 0 c} IdNotAllowed true refl refl passed
 
-  group-ids-told : (n : NewIds) → Told (10 ∷ []) (onIds n) (groupIdsChanged c n)
-  unfolding isBelow isAmong
-  group-ids-told (Allowed new) = first IdNotAllowed false refl refl passed
-  group-ids-told NotAllowed = first {r = Done 0 c} IdNotAllowed true refl refl passed
+  group_ids_told : (n : NewIds) → Told (10 ∷ []) (on_ids n) (group_ids_changed c n)
+  unfolding is_below is_among
+  group_ids_told (Allowed new) = first IdNotAllowed false refl refl passed
+  group_ids_told NotAllowed = first {r = Done 0 c} IdNotAllowed true refl refl passed
 
-  filesystem-user-id-told : (n : NewIds) → Told [] [] (filesystemUserIdChanged c n)
-  filesystem-user-id-told (Allowed new) = passed
-  filesystem-user-id-told NotAllowed = passed
+  filesystem_user_id_told : (n : NewIds) → Told [] [] (filesystem_user_id_changed c n)
+  filesystem_user_id_told (Allowed new) = passed
+  filesystem_user_id_told NotAllowed = passed
 
-  filesystem-group-id-told : (n : NewIds) → Told [] [] (filesystemGroupIdChanged c n)
-  filesystem-group-id-told (Allowed new) = passed
-  filesystem-group-id-told NotAllowed = passed
+  filesystem_group_id_told : (n : NewIds) → Told [] [] (filesystem_group_id_changed c n)
+  filesystem_group_id_told (Allowed new) = passed
+  filesystem_group_id_told NotAllowed = passed
 
-  launch-told : (owner flags group : ℕ) (r : Reading)
-      → Told (11 ∷ []) (record { number = 11; fails = readFallsShort c.sets r } ∷ []) (launchOf c owner flags group r)
-  unfolding failing oneFails isBelow isAmong
-  launch-told owner flags group (File f) = first LaunchFallsShort _ refl refl passed
-  launch-told owner flags group Unreadable = record { refused = refl; lowest-number = refl; among = λ e. absurd (true≢false (sym e)) }
+  launch_told : (owner flags group : ℕ) (r : Reading)
+      → Told (11 ∷ []) (record { number = 11; fails = read_falls_short c.sets r } ∷ []) (launch_of c owner flags group r)
+  unfolding failing one_fails is_below is_among
+  launch_told owner flags group (File f) = first LaunchFallsShort _ refl refl passed
+  launch_told owner flags group Unreadable = record { refused = refl; lowest_number = refl; among = λ e. absurd (true≢false (sym e)) }
 
-  told : (k : Call) → Told (causesOf (number_of k)) (tests c s k) (performed c s k)
-  unfolding causesOf isBelow isAmong launch capset boundingDrop boundingRead ambientRaise ambientLower ambientIsSet ambientClearAll setSecurebits getSecurebits setKeepCaps getKeepCaps setNoNewPrivs getNoNewPrivs setuid setreuid setresuid setfsuid setgid setregid setresgid setfsgid
-  told (Execve owner flags group) = launch-told owner flags group (fileRead c.nnp flags s)
+  told : (k : Call) → Told (causes_of (number_of k)) (tests c s k) (performed c s k)
+  unfolding causes_of is_below is_among launch capset bounding_drop bounding_read ambient_raise ambient_lower ambient_is_set ambient_clear_all set_securebits get_securebits set_keep_caps get_keep_caps set_no_new_privs get_no_new_privs setuid setreuid setresuid setfsuid setgid setregid setresgid setfsgid
+  told (Execve owner flags group) = launch_told owner flags group (file_read c.nnp flags s)
   told (Capset p i e) =
       first InheritableBeyondPermitted _ refl refl
       (first InheritableBeyondBounding _ refl refl (first PermittedGrows _ refl refl (first EffectiveBeyondPermitted _ refl refl passed)))
@@ -154,14 +154,14 @@ module _ (c : Credentials) (s : List ℕ) where
   told GetKeepCaps = passed
   told SetNoNewPrivs = passed
   told GetNoNewPrivs = passed
-  told (Setuid id) = user-ids-told (setuidOn (maySetAnyUserId c) c.uids id)
-  told (Setreuid r e) = user-ids-told (setreuidOn (maySetAnyUserId c) c.uids r e)
-  told (Setresuid r e t) = user-ids-told (setresuidOn (maySetAnyUserId c) c.uids r e t)
-  told (Setfsuid id) = filesystem-user-id-told (setfsuidOn (maySetAnyUserId c) c.uids id)
-  told (Setgid id) = group-ids-told (setuidOn (maySetAnyGroupId c) c.gids id)
-  told (Setregid r e) = group-ids-told (setreuidOn (maySetAnyGroupId c) c.gids r e)
-  told (Setresgid r e t) = group-ids-told (setresuidOn (maySetAnyGroupId c) c.gids r e t)
-  told (Setfsgid id) = filesystem-group-id-told (setfsuidOn (maySetAnyGroupId c) c.gids id)
+  told (Setuid id) = user_ids_told (setuid_on (may_set_any_user_id c) c.uids id)
+  told (Setreuid r e) = user_ids_told (setreuid_on (may_set_any_user_id c) c.uids r e)
+  told (Setresuid r e t) = user_ids_told (setresuid_on (may_set_any_user_id c) c.uids r e t)
+  told (Setfsuid id) = filesystem_user_id_told (setfsuid_on (may_set_any_user_id c) c.uids id)
+  told (Setgid id) = group_ids_told (setuid_on (may_set_any_group_id c) c.gids id)
+  told (Setregid r e) = group_ids_told (setreuid_on (may_set_any_group_id c) c.gids r e)
+  told (Setresgid r e t) = group_ids_told (setresuid_on (may_set_any_group_id c) c.gids r e t)
+  told (Setfsgid id) = filesystem_group_id_told (setfsuid_on (may_set_any_group_id c) c.gids id)
 
 -- ---- the call that a number makes has that number
 
@@ -207,18 +207,18 @@ module _ (number : ℕ) where
 
   -- ---- any credentials, operands and attribute
 
-  answer-told : (c : Credentials) (s : List ℕ) (t : Bool) (d : Decoded) → Numbered d
-      → Told (causesOf number) (cond t (testsOf c s d) []) (cond t (decoded c s d) InvalidCredentials)
-  unfolding failing oneFails
-  answer-told c s true (Known k) h = subst (λ (n : ℕ). Told (causesOf n) (tests c s k) (performed c s k)) h (told c s k)
-  answer-told c s true Unknown h = record { refused = refl; lowest-number = refl; among = λ e. absurd (true≢false (sym e)) }
-  answer-told c s false d h = record { refused = refl; lowest-number = refl; among = λ e. absurd (true≢false (sym e)) }
+  answer_told : (c : Credentials) (s : List ℕ) (t : Bool) (d : Decoded) → Numbered d
+      → Told (causes_of number) (cond t (tests_of c s d) []) (cond t (decoded c s d) InvalidCredentials)
+  unfolding failing one_fails
+  answer_told c s true (Known k) h = subst (λ (n : ℕ). Told (causes_of n) (tests c s k) (performed c s k)) h (told c s k)
+  answer_told c s true Unknown h = record { refused = refl; lowest_number = refl; among = λ e. absurd (true≢false (sym e)) }
+  answer_told c s false d h = record { refused = refl; lowest_number = refl; among = λ e. absurd (true≢false (sym e)) }
 
-step-told : (c : Credentials) (x : Step) → Told (causesOf x.number) (asked c x) (answer c x.number x.a x.b x.c x.attribute)
+step_told : (c : Credentials) (x : Step) → Told (causes_of x.number) (asked c x) (answer c x.number x.a x.b x.c x.attribute)
 unfolding answer asked
-step-told c x =
+step_told c x =
     let size : ℕ = length x.attribute in
-    answer-told x.number c x.attribute (valid c) (decode x.number x.a x.b x.c size) (numbered x.number x.a x.b x.c size)
+    answer_told x.number c x.attribute (valid c) (decode x.number x.a x.b x.c size) (numbered x.number x.a x.b x.c size)
 
 -- a refusal by the rules alone has a cause
 no_other : (r : Answer) → eqb (code r) 1 ≡ false → cause r ≡ 0
@@ -228,13 +228,13 @@ no_other InvalidArgument e = refl
 no_other UnreadableAttribute e = refl
 no_other InvalidCredentials e = refl
 
-pub why-refused : WhyRefused
+pub why_refused : WhyRefused
 unfolding result
-why-refused =
+why_refused =
     record {
-      refused-if = λ c x. (step-told c x).refused;
-      lowest-wins = λ c x e. (step-told c x).lowest-number;
-      own-causes = λ c x e. (step-told c x).among (eq-eqb _ 1 e);
-      each-occurs = each-occurs;
+      refused_if = λ c x. (step_told c x).refused;
+      lowest_wins = λ c x e. (step_told c x).lowest_number;
+      own_causes = λ c x e. (step_told c x).among (eq-eqb _ 1 e);
+      each_occurs = each_occurs;
       no_other = λ c x e. no_other (answer c x.number x.a x.b x.c x.attribute) e;
     }

@@ -23,23 +23,23 @@ value UnreadableAttribute = 0
 value InvalidCredentials = 0
 
 -- the number of a cause ("Why it was refused")
-abbrev pub causeNumber : Cause → ℕ
-causeNumber CapabilityNotEffective = 1
-causeNumber InheritableBeyondPermitted = 2
-causeNumber InheritableBeyondBounding = 3
-causeNumber PermittedGrows = 4
-causeNumber EffectiveBeyondPermitted = 5
-causeNumber NotInPermittedAndInheritable = 6
-causeNumber AmbientRaiseForbidden = 7
-causeNumber LockUndone = 8
-causeNumber LockedFlagChanged = 9
-causeNumber IdNotAllowed = 10
-causeNumber LaunchFallsShort = 11
+abbrev pub cause_number : Cause → ℕ
+cause_number CapabilityNotEffective = 1
+cause_number InheritableBeyondPermitted = 2
+cause_number InheritableBeyondBounding = 3
+cause_number PermittedGrows = 4
+cause_number EffectiveBeyondPermitted = 5
+cause_number NotInPermittedAndInheritable = 6
+cause_number AmbientRaiseForbidden = 7
+cause_number LockUndone = 8
+cause_number LockedFlagChanged = 9
+cause_number IdNotAllowed = 10
+cause_number LaunchFallsShort = 11
 
 -- the cause: why the rules refuse, and 0 for every other answer
 abbrev pub cause : Answer → ℕ
 cause (Done v c) = 0
-cause (NotPermitted why) = causeNumber why
+cause (NotPermitted why) = cause_number why
 cause InvalidArgument = 0
 cause UnreadableAttribute = 0
 cause InvalidCredentials = 0

@@ -4,10 +4,10 @@ use Rattle.credentials.specs.Validity.{valid}
 use Rattle.credentials.specs.declared.Credentials.{Credentials}
 use Rattle.rules.specs.Launching.{launch}
 use Rattle.rules.specs.Capset.{capset}
-use Rattle.rules.specs.Bounding.{boundingDrop, boundingRead}
-use Rattle.rules.specs.Ambient.{ambientRaise, ambientLower, ambientIsSet, ambientClearAll}
-use Rattle.rules.specs.Securebits.{setSecurebits, getSecurebits}
-use Rattle.rules.specs.ThreadFlags.{setKeepCaps, getKeepCaps, setNoNewPrivs, getNoNewPrivs}
+use Rattle.rules.specs.Bounding.{bounding_drop, bounding_read}
+use Rattle.rules.specs.Ambient.{ambient_raise, ambient_lower, ambient_is_set, ambient_clear_all}
+use Rattle.rules.specs.Securebits.{set_securebits, get_securebits}
+use Rattle.rules.specs.ThreadFlags.{set_keep_caps, get_keep_caps, set_no_new_privs, get_no_new_privs}
 use Rattle.rules.specs.Ids.{setuid, setreuid, setresuid, setfsuid, setgid, setregid, setresgid, setfsgid}
 use Rattle.rules.specs.Decoding.{decode}
 use Rattle.rules.specs.declared.Answer.{Answer}
@@ -21,18 +21,18 @@ use Rattle.rules.specs.declared.Decoded.TheVariants.{Known, Unknown}
 abbrev pub performed : Credentials → List ℕ → Call → Answer
 performed start attribute (Execve owner flags group) = launch start owner flags group attribute
 performed start attribute (Capset p i e) = capset start p i e
-performed start attribute (BoundingDrop n) = boundingDrop start n
-performed start attribute (BoundingRead n) = boundingRead start n
-performed start attribute (AmbientRaise n) = ambientRaise start n
-performed start attribute (AmbientLower n) = ambientLower start n
-performed start attribute (AmbientIsSet n) = ambientIsSet start n
-performed start attribute AmbientClearAll = ambientClearAll start
-performed start attribute (SetSecurebits new) = setSecurebits start new
-performed start attribute GetSecurebits = getSecurebits start
-performed start attribute (SetKeepCaps on) = setKeepCaps start on
-performed start attribute GetKeepCaps = getKeepCaps start
-performed start attribute SetNoNewPrivs = setNoNewPrivs start
-performed start attribute GetNoNewPrivs = getNoNewPrivs start
+performed start attribute (BoundingDrop n) = bounding_drop start n
+performed start attribute (BoundingRead n) = bounding_read start n
+performed start attribute (AmbientRaise n) = ambient_raise start n
+performed start attribute (AmbientLower n) = ambient_lower start n
+performed start attribute (AmbientIsSet n) = ambient_is_set start n
+performed start attribute AmbientClearAll = ambient_clear_all start
+performed start attribute (SetSecurebits new) = set_securebits start new
+performed start attribute GetSecurebits = get_securebits start
+performed start attribute (SetKeepCaps on) = set_keep_caps start on
+performed start attribute GetKeepCaps = get_keep_caps start
+performed start attribute SetNoNewPrivs = set_no_new_privs start
+performed start attribute GetNoNewPrivs = get_no_new_privs start
 performed start attribute (Setuid id) = setuid start id
 performed start attribute (Setreuid r e) = setreuid start r e
 performed start attribute (Setresuid r e s) = setresuid start r e s

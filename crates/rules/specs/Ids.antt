@@ -3,12 +3,12 @@
 -- follows for the sets is of user IDs alone. Assumes nothing.
 use Rattle.std.specs.Prelude.{ℕ, Bool, cond, not, ◌&&◌, ◌||◌, eqb}
 use Rattle.capabilities.specs.Sets.{has, union, inter, minus}
-use Rattle.capabilities.specs.Header.{CAP-SETGID, CAP-SETUID}
-use Rattle.credentials.specs.Securebits.{SECBIT-NO-SETUID-FIXUP, SECBIT-KEEP-CAPS}
+use Rattle.capabilities.specs.Header.{CAP_SETGID, CAP_SETUID}
+use Rattle.credentials.specs.Securebits.{SECBIT_NO_SETUID_FIXUP, SECBIT_KEEP_CAPS}
 use Rattle.credentials.specs.declared.Ids.{Ids}
 use Rattle.credentials.specs.declared.Sets.{Sets}
 use Rattle.credentials.specs.declared.Credentials.{Credentials}
-use Rattle.rules.specs.Fields.{is_set, withAmbient, withEffective, withFilesystem, withGids, withPermitted, withSets, withUids}
+use Rattle.rules.specs.Fields.{is_set, with_ambient, with_effective, with_filesystem, with_gids, with_permitted, with_sets, with_uids}
 use Rattle.rules.specs.declared.Answer.{Answer}
 use Rattle.rules.specs.declared.Answer.TheVariants.{Done, NotPermitted}
 use Rattle.rules.specs.declared.Cause.TheVariants.{IdNotAllowed}
@@ -18,190 +18,190 @@ use Rattle.rules.specs.declared.NewIds.TheVariants.{Allowed, NotAllowed}
 -- ---- "The eighteen calls": an operand that gives an ID, and one that gives none
 
 -- in calls 16 to 18 and 20 to 22 this operand gives none
-abbrev pub NO-ID : ℕ
-NO-ID = 4294967295
+abbrev pub NO_ID : ℕ
+NO_ID = 4294967295
 
-abbrev pub isGiven : ℕ → Bool
-isGiven operand = not (eqb operand NO-ID)
+abbrev pub is_given : ℕ → Bool
+is_given operand = not (eqb operand NO_ID)
 
 -- the new ID: the one given, or else the old one
-unfoldable pub givenOr : ℕ → ℕ → ℕ
-givenOr old operand = cond (eqb operand NO-ID) old operand
+unfoldable pub given_or : ℕ → ℕ → ℕ
+given_or old operand = cond (eqb operand NO_ID) old operand
 
 -- ---- what each call allows and gives, of user IDs with SETUID and of group IDs with SETGID: the flag says that it may set any
 
 -- one of real, effective and saved
-unfoldable pub oneOfThree : Ids → ℕ → Bool
-oneOfThree u id = eqb id u.real || eqb id u.effective || eqb id u.saved
+unfoldable pub one_of_three : Ids → ℕ → Bool
+one_of_three u id = eqb id u.real || eqb id u.effective || eqb id u.saved
 
 -- setuid, where it may not set any: the ID must be the real or the saved one
-unfoldable pub setuidAllowed : Bool → Ids → ℕ → Bool
-setuidAllowed any u id = any || eqb id u.real || eqb id u.saved
+unfoldable pub setuid_allowed : Bool → Ids → ℕ → Bool
+setuid_allowed any u id = any || eqb id u.real || eqb id u.saved
 
 -- setuid: where it may set any all four IDs change, and else the effective and the filesystem ID
-unfoldable pub setuidIds : Bool → Ids → ℕ → Ids
-setuidIds any u id = record { real = cond any id u.real; effective = id; saved = cond any id u.saved; filesystem = id }
+unfoldable pub setuid_ids : Bool → Ids → ℕ → Ids
+setuid_ids any u id = record { real = cond any id u.real; effective = id; saved = cond any id u.saved; filesystem = id }
 
 -- setuid on four IDs, user or group: the new ones, or not allowed
-unfoldable pub setuidOn : Bool → Ids → ℕ → NewIds
-setuidOn any u id = cond (setuidAllowed any u id) (Allowed (setuidIds any u id)) NotAllowed
+unfoldable pub setuid_on : Bool → Ids → ℕ → NewIds
+setuid_on any u id = cond (setuid_allowed any u id) (Allowed (setuid_ids any u id)) NotAllowed
 
 -- setreuid, where it may not set any: real goes to real or effective, and effective to one of the three
-unfoldable pub setreuidAllowed : Bool → Ids → Ids → Bool
-setreuidAllowed any u new =
-    any || (eqb new.real u.real || eqb new.real u.effective) && oneOfThree u new.effective
+unfoldable pub setreuid_allowed : Bool → Ids → Ids → Bool
+setreuid_allowed any u new =
+    any || (eqb new.real u.real || eqb new.real u.effective) && one_of_three u new.effective
 
 -- setreuid: the saved ID moves where real is given, or effective is given and is not the old real
-abbrev pub setreuidSaves : Ids → ℕ → ℕ → Bool
-setreuidSaves u r e = isGiven r || isGiven e && not (eqb e u.real)
+abbrev pub setreuid_saves : Ids → ℕ → ℕ → Bool
+setreuid_saves u r e = is_given r || is_given e && not (eqb e u.real)
 
 -- setreuid: the saved ID, where it moves, becomes the new effective one
-unfoldable pub setreuidSaved : Ids → ℕ → ℕ → ℕ
-setreuidSaved u r e = cond (setreuidSaves u r e) (givenOr u.effective e) u.saved
+unfoldable pub setreuid_saved : Ids → ℕ → ℕ → ℕ
+setreuid_saved u r e = cond (setreuid_saves u r e) (given_or u.effective e) u.saved
 
 -- setreuid: the two IDs that are given, and the filesystem ID is the effective one
-unfoldable pub setreuidIds : Ids → ℕ → ℕ → Ids
-setreuidIds u r e =
+unfoldable pub setreuid_ids : Ids → ℕ → ℕ → Ids
+setreuid_ids u r e =
     record {
-      real = givenOr u.real r;
-      effective = givenOr u.effective e;
-      saved = setreuidSaved u r e;
-      filesystem = givenOr u.effective e;
+      real = given_or u.real r;
+      effective = given_or u.effective e;
+      saved = setreuid_saved u r e;
+      filesystem = given_or u.effective e;
     }
 
 -- setreuid on four IDs
-unfoldable pub setreuidOn : Bool → Ids → ℕ → ℕ → NewIds
-setreuidOn any u r e = cond (setreuidAllowed any u (setreuidIds u r e)) (Allowed (setreuidIds u r e)) NotAllowed
+unfoldable pub setreuid_on : Bool → Ids → ℕ → ℕ → NewIds
+setreuid_on any u r e = cond (setreuid_allowed any u (setreuid_ids u r e)) (Allowed (setreuid_ids u r e)) NotAllowed
 
 -- setresuid, where it may not set any: each goes to one of the three
-unfoldable pub setresuidAllowed : Bool → Ids → Ids → Bool
-setresuidAllowed any u new = any || oneOfThree u new.real && oneOfThree u new.effective && oneOfThree u new.saved
+unfoldable pub setresuid_allowed : Bool → Ids → Ids → Bool
+setresuid_allowed any u new = any || one_of_three u new.real && one_of_three u new.effective && one_of_three u new.saved
 
 -- setresuid: the three IDs that are given, and the filesystem ID is the effective one
-unfoldable pub setresuidIds : Ids → ℕ → ℕ → ℕ → Ids
-setresuidIds u r e s =
+unfoldable pub setresuid_ids : Ids → ℕ → ℕ → ℕ → Ids
+setresuid_ids u r e s =
     record {
-      real = givenOr u.real r;
-      effective = givenOr u.effective e;
-      saved = givenOr u.saved s;
-      filesystem = givenOr u.effective e;
+      real = given_or u.real r;
+      effective = given_or u.effective e;
+      saved = given_or u.saved s;
+      filesystem = given_or u.effective e;
     }
 
 -- setresuid on four IDs
-unfoldable pub setresuidOn : Bool → Ids → ℕ → ℕ → ℕ → NewIds
-setresuidOn any u r e s = cond (setresuidAllowed any u (setresuidIds u r e s)) (Allowed (setresuidIds u r e s)) NotAllowed
+unfoldable pub setresuid_on : Bool → Ids → ℕ → ℕ → ℕ → NewIds
+setresuid_on any u r e s = cond (setresuid_allowed any u (setresuid_ids u r e s)) (Allowed (setresuid_ids u r e s)) NotAllowed
 
 -- setfsuid: changes to any of the four, or where it may set any to any that is given
-unfoldable pub setfsuidChanges : Bool → Ids → ℕ → Bool
-setfsuidChanges any u id = isGiven id && (any || oneOfThree u id || eqb id u.filesystem)
+unfoldable pub setfsuid_changes : Bool → Ids → ℕ → Bool
+setfsuid_changes any u id = is_given id && (any || one_of_three u id || eqb id u.filesystem)
 
 -- setfsuid on four IDs
-unfoldable pub setfsuidOn : Bool → Ids → ℕ → NewIds
-setfsuidOn any u id = cond (setfsuidChanges any u id) (Allowed (withFilesystem u id)) NotAllowed
+unfoldable pub setfsuid_on : Bool → Ids → ℕ → NewIds
+setfsuid_on any u id = cond (setfsuid_changes any u id) (Allowed (with_filesystem u id)) NotAllowed
 
 -- ---- after an accepted call on user IDs, unless NO_SETUID_FIXUP
 
 -- one of real, effective and saved is 0
-abbrev pub anyRoot : Ids → Bool
-anyRoot u = oneOfThree u 0
+abbrev pub any_root : Ids → Bool
+any_root u = one_of_three u 0
 
 -- rule 1: where one of the three was 0 and none is now, A is cleared, and P and E too unless KEEP_CAPS
-unfoldable pub rootLeft : Ids → Ids → ℕ → Sets → Sets
-rootLeft old new securebits s =
-    cond (anyRoot old && not (anyRoot new))
-    (cond (is_set securebits SECBIT-KEEP-CAPS) (withAmbient s 0) (withPermitted (withEffective (withAmbient s 0) 0) 0))
+unfoldable pub root_left : Ids → Ids → ℕ → Sets → Sets
+root_left old new securebits s =
+    cond (any_root old && not (any_root new))
+    (cond (is_set securebits SECBIT_KEEP_CAPS) (with_ambient s 0) (with_permitted (with_effective (with_ambient s 0) 0) 0))
     s
 
 -- rule 2: the effective ID from 0 to nonzero clears E
-unfoldable pub effectiveLeft : Ids → Ids → Sets → Sets
-effectiveLeft old new s = cond (eqb old.effective 0 && not (eqb new.effective 0)) (withEffective s 0) s
+unfoldable pub effective_left : Ids → Ids → Sets → Sets
+effective_left old new s = cond (eqb old.effective 0 && not (eqb new.effective 0)) (with_effective s 0) s
 
 -- rule 3: the effective ID from nonzero to 0 makes P the effective set
-unfoldable pub effectiveTaken : Ids → Ids → Sets → Sets
-effectiveTaken old new s = cond (not (eqb old.effective 0) && eqb new.effective 0) (withEffective s s.permitted) s
+unfoldable pub effective_taken : Ids → Ids → Sets → Sets
+effective_taken old new s = cond (not (eqb old.effective 0) && eqb new.effective 0) (with_effective s s.permitted) s
 
 -- rule 4's set: CHOWN, DAC_OVERRIDE, DAC_READ_SEARCH, FOWNER, FSETID, LINUX_IMMUTABLE, MKNOD and MAC_OVERRIDE
-abbrev pub filesystemSet : ℕ
-filesystemSet = 0x10800021f
+abbrev pub filesystem_set : ℕ
+filesystem_set = 0x10800021f
 
 -- rule 4: the filesystem ID from 0 to nonzero takes that set from E
-unfoldable pub filesystemLeft : Ids → Ids → Sets → Sets
-filesystemLeft old new s =
-    cond (eqb old.filesystem 0 && not (eqb new.filesystem 0)) (withEffective s (minus s.effective filesystemSet)) s
+unfoldable pub filesystem_left : Ids → Ids → Sets → Sets
+filesystem_left old new s =
+    cond (eqb old.filesystem 0 && not (eqb new.filesystem 0)) (with_effective s (minus s.effective filesystem_set)) s
 
 -- rule 4: from nonzero to 0 it adds to E what P has of that set
-unfoldable pub filesystemTaken : Ids → Ids → Sets → Sets
-filesystemTaken old new s =
-    cond (not (eqb old.filesystem 0) && eqb new.filesystem 0) (withEffective s (union s.effective (inter filesystemSet s.permitted))) s
+unfoldable pub filesystem_taken : Ids → Ids → Sets → Sets
+filesystem_taken old new s =
+    cond (not (eqb old.filesystem 0) && eqb new.filesystem 0) (with_effective s (union s.effective (inter filesystem_set s.permitted))) s
 
 -- calls 15 to 17: rules 1, 2 and 3
-unfoldable pub setsAfter : Ids → Ids → ℕ → Sets → Sets
-setsAfter old new securebits s =
-    cond (is_set securebits SECBIT-NO-SETUID-FIXUP) s (effectiveTaken old new (effectiveLeft old new (rootLeft old new securebits s)))
+unfoldable pub sets_after : Ids → Ids → ℕ → Sets → Sets
+sets_after old new securebits s =
+    cond (is_set securebits SECBIT_NO_SETUID_FIXUP) s (effective_taken old new (effective_left old new (root_left old new securebits s)))
 
 -- call 18: rule 4; the three IDs of rules 1 to 3 stay, and so do these rules' sets
-unfoldable pub setsAfterFilesystem : Ids → Ids → ℕ → Sets → Sets
-setsAfterFilesystem old new securebits s = cond (is_set securebits SECBIT-NO-SETUID-FIXUP) s (filesystemTaken old new (filesystemLeft old new s))
+unfoldable pub sets_after_filesystem : Ids → Ids → ℕ → Sets → Sets
+sets_after_filesystem old new securebits s = cond (is_set securebits SECBIT_NO_SETUID_FIXUP) s (filesystem_taken old new (filesystem_left old new s))
 
 -- ---- the calls on user IDs
 
 -- with SETUID a thread may set any user ID
-abbrev pub maySetAnyUserId : Credentials → Bool
-maySetAnyUserId c = has c.sets.effective CAP-SETUID
+abbrev pub may_set_any_user_id : Credentials → Bool
+may_set_any_user_id c = has c.sets.effective CAP_SETUID
 
 -- calls 15 to 17: the new user IDs, and the sets by rules 1 to 3; or refused
-abbrev pub userIdsChanged : Credentials → NewIds → Answer
-userIdsChanged c (Allowed new) = Done 0 (withSets (withUids c new) (setsAfter c.uids new c.securebits c.sets))
-userIdsChanged c NotAllowed = NotPermitted IdNotAllowed
+abbrev pub user_ids_changed : Credentials → NewIds → Answer
+user_ids_changed c (Allowed new) = Done 0 (with_sets (with_uids c new) (sets_after c.uids new c.securebits c.sets))
+user_ids_changed c NotAllowed = NotPermitted IdNotAllowed
 
 -- call 15
 unfoldable pub setuid : Credentials → ℕ → Answer
-setuid c id = userIdsChanged c (setuidOn (maySetAnyUserId c) c.uids id)
+setuid c id = user_ids_changed c (setuid_on (may_set_any_user_id c) c.uids id)
 
 -- call 16
 unfoldable pub setreuid : Credentials → ℕ → ℕ → Answer
-setreuid c r e = userIdsChanged c (setreuidOn (maySetAnyUserId c) c.uids r e)
+setreuid c r e = user_ids_changed c (setreuid_on (may_set_any_user_id c) c.uids r e)
 
 -- call 17
 unfoldable pub setresuid : Credentials → ℕ → ℕ → ℕ → Answer
-setresuid c r e s = userIdsChanged c (setresuidOn (maySetAnyUserId c) c.uids r e s)
+setresuid c r e s = user_ids_changed c (setresuid_on (may_set_any_user_id c) c.uids r e s)
 
 -- call 18: the sets by rule 4; never refused, and the value is the old filesystem ID
-abbrev pub filesystemUserIdChanged : Credentials → NewIds → Answer
-filesystemUserIdChanged c (Allowed new) =
-    Done c.uids.filesystem (withSets (withUids c new) (setsAfterFilesystem c.uids new c.securebits c.sets))
-filesystemUserIdChanged c NotAllowed = Done c.uids.filesystem c
+abbrev pub filesystem_user_id_changed : Credentials → NewIds → Answer
+filesystem_user_id_changed c (Allowed new) =
+    Done c.uids.filesystem (with_sets (with_uids c new) (sets_after_filesystem c.uids new c.securebits c.sets))
+filesystem_user_id_changed c NotAllowed = Done c.uids.filesystem c
 
 unfoldable pub setfsuid : Credentials → ℕ → Answer
-setfsuid c id = filesystemUserIdChanged c (setfsuidOn (maySetAnyUserId c) c.uids id)
+setfsuid c id = filesystem_user_id_changed c (setfsuid_on (may_set_any_user_id c) c.uids id)
 
 -- ---- the calls on group IDs, by the same rules with SETGID in place of SETUID; none of rules 1 to 4 runs, and no set is touched
 
 -- with SETGID a thread may set any group ID
-abbrev pub maySetAnyGroupId : Credentials → Bool
-maySetAnyGroupId c = has c.sets.effective CAP-SETGID
+abbrev pub may_set_any_group_id : Credentials → Bool
+may_set_any_group_id c = has c.sets.effective CAP_SETGID
 
 -- calls 19 to 21: the new group IDs, or refused
-abbrev pub groupIdsChanged : Credentials → NewIds → Answer
-groupIdsChanged c (Allowed new) = Done 0 (withGids c new)
-groupIdsChanged c NotAllowed = NotPermitted IdNotAllowed
+abbrev pub group_ids_changed : Credentials → NewIds → Answer
+group_ids_changed c (Allowed new) = Done 0 (with_gids c new)
+group_ids_changed c NotAllowed = NotPermitted IdNotAllowed
 
 -- call 19
 unfoldable pub setgid : Credentials → ℕ → Answer
-setgid c id = groupIdsChanged c (setuidOn (maySetAnyGroupId c) c.gids id)
+setgid c id = group_ids_changed c (setuid_on (may_set_any_group_id c) c.gids id)
 
 -- call 20
 unfoldable pub setregid : Credentials → ℕ → ℕ → Answer
-setregid c r e = groupIdsChanged c (setreuidOn (maySetAnyGroupId c) c.gids r e)
+setregid c r e = group_ids_changed c (setreuid_on (may_set_any_group_id c) c.gids r e)
 
 -- call 21
 unfoldable pub setresgid : Credentials → ℕ → ℕ → ℕ → Answer
-setresgid c r e s = groupIdsChanged c (setresuidOn (maySetAnyGroupId c) c.gids r e s)
+setresgid c r e s = group_ids_changed c (setresuid_on (may_set_any_group_id c) c.gids r e s)
 
 -- call 22: never refused, and the value is the old filesystem ID
-abbrev pub filesystemGroupIdChanged : Credentials → NewIds → Answer
-filesystemGroupIdChanged c (Allowed new) = Done c.gids.filesystem (withGids c new)
-filesystemGroupIdChanged c NotAllowed = Done c.gids.filesystem c
+abbrev pub filesystem_group_id_changed : Credentials → NewIds → Answer
+filesystem_group_id_changed c (Allowed new) = Done c.gids.filesystem (with_gids c new)
+filesystem_group_id_changed c NotAllowed = Done c.gids.filesystem c
 
 unfoldable pub setfsgid : Credentials → ℕ → Answer
-setfsgid c id = filesystemGroupIdChanged c (setfsuidOn (maySetAnyGroupId c) c.gids id)
+setfsgid c id = filesystem_group_id_changed c (setfsuid_on (may_set_any_group_id c) c.gids id)

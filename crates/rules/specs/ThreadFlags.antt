@@ -2,35 +2,35 @@
 -- Assumes nothing.
 use Rattle.std.specs.Prelude.{ℕ, Bool, true, cond}
 use Rattle.capabilities.specs.Sets.{union, minus}
-use Rattle.credentials.specs.Securebits.{SECBIT-KEEP-CAPS, lockOf}
+use Rattle.credentials.specs.Securebits.{SECBIT_KEEP_CAPS, lock_of}
 use Rattle.credentials.specs.declared.Credentials.{Credentials}
-use Rattle.rules.specs.Fields.{is_set, number, withNnp, withSecurebits}
+use Rattle.rules.specs.Fields.{is_set, number, with_nnp, with_securebits}
 use Rattle.rules.specs.declared.Answer.{Answer}
 use Rattle.rules.specs.declared.Answer.TheVariants.{Done, NotPermitted}
 use Rattle.rules.specs.declared.Cause.TheVariants.{LockedFlagChanged}
 
 -- call 11's test: the lock of KEEP_CAPS is set
-abbrev pub keepCapsLocked : ℕ → Bool
-keepCapsLocked securebits = is_set securebits (lockOf SECBIT-KEEP-CAPS)
+abbrev pub keep_caps_locked : ℕ → Bool
+keep_caps_locked securebits = is_set securebits (lock_of SECBIT_KEEP_CAPS)
 
 -- securebits with KEEP_CAPS on or off
-unfoldable pub withKeepCaps : ℕ → Bool → ℕ
-withKeepCaps securebits on = cond on (union securebits SECBIT-KEEP-CAPS) (minus securebits SECBIT-KEEP-CAPS)
+unfoldable pub with_keep_caps : ℕ → Bool → ℕ
+with_keep_caps securebits on = cond on (union securebits SECBIT_KEEP_CAPS) (minus securebits SECBIT_KEEP_CAPS)
 
 -- call 11, set keep-caps: refused where it is locked; needs no capability
-unfoldable pub setKeepCaps : Credentials → Bool → Answer
-setKeepCaps c on =
-    cond (keepCapsLocked c.securebits) (NotPermitted LockedFlagChanged)
-    (Done 0 (withSecurebits c (withKeepCaps c.securebits on)))
+unfoldable pub set_keep_caps : Credentials → Bool → Answer
+set_keep_caps c on =
+    cond (keep_caps_locked c.securebits) (NotPermitted LockedFlagChanged)
+    (Done 0 (with_securebits c (with_keep_caps c.securebits on)))
 
 -- call 12, get keep-caps
-unfoldable pub getKeepCaps : Credentials → Answer
-getKeepCaps c = Done (number (is_set c.securebits SECBIT-KEEP-CAPS)) c
+unfoldable pub get_keep_caps : Credentials → Answer
+get_keep_caps c = Done (number (is_set c.securebits SECBIT_KEEP_CAPS)) c
 
 -- call 13, set no-new-privs
-unfoldable pub setNoNewPrivs : Credentials → Answer
-setNoNewPrivs c = Done 0 (withNnp c true)
+unfoldable pub set_no_new_privs : Credentials → Answer
+set_no_new_privs c = Done 0 (with_nnp c true)
 
 -- call 14, get no-new-privs
-unfoldable pub getNoNewPrivs : Credentials → Answer
-getNoNewPrivs c = Done (number c.nnp) c
+unfoldable pub get_no_new_privs : Credentials → Answer
+get_no_new_privs c = Done (number c.nnp) c

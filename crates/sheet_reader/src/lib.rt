@@ -3,9 +3,9 @@
 // The sheet itself is defined in the crate `format`; the table that its hex digits are read by is made once and lent. Every function is proved, for
 // every argument: no public one has a `requires`. The crate assumes nothing.
 ghost use Rattle.std.specs.Prelude.{◌≡◌, ℕ, List, [], ◌∷◌};
-ghost use Rattle.format.specs.Sheet.{idKinds, setKinds, flagKinds, idValues, setValues, readSheet, sheetCode, sheetLine};
-ghost use Rattle.line_reader.specs.Positions.{linesBy};
-ghost use Rattle.sheet_reader.specs.Positions.{frontBy, judged};
+ghost use Rattle.format.specs.Sheet.{id_kinds, set_kinds, flag_kinds, id_values, set_values, read_sheet, sheet_code, sheet_line};
+ghost use Rattle.line_reader.specs.Positions.{lines_by};
+ghost use Rattle.sheet_reader.specs.Positions.{front_by, judged};
 
 use codes::{DONE, INVALID_CREDENTIALS, MALFORMED};
 use credentials::{Credentials, Ids, Sets, is_valid};
@@ -54,7 +54,7 @@ struct FlagLines {
 
 // The lines of four IDs at a place, by the letter in their keys: u for users, g for groups.
 fn read_ids(text: &[u8], place: Place, letter: u8) -> IdLines
-    ensures { (table : List ℕ) → linesBy table (idKinds (letter ∷ [])) text.now place ≡ record { values = idValues result.ids; place = result.place } }
+    ensures { (table : List ℕ) → lines_by table (id_kinds (letter ∷ [])) text.now place ≡ record { values = id_values result.ids; place = result.place } }
 {
     let real_key = [b'r', letter, b'i', b'd', b'='];
     let real = read_decimal(text, place, &real_key, LARGEST_WRITTEN_ID);
@@ -76,7 +76,7 @@ fn read_ids(text: &[u8], place: Place, letter: u8) -> IdLines
 
 // The lines of the capability sets, by the table, at a place.
 fn read_sets(text: &[u8], place: Place, table: &[u8; 256]) -> SetLines
-    ensures { linesBy table.now setKinds text.now place ≡ record { values = setValues result.sets; place = result.place } }
+    ensures { lines_by table.now set_kinds text.now place ≡ record { values = set_values result.sets; place = result.place } }
 {
     let permitted = read_hex16(text, place, b"permitted=", table);
     let inheritable = read_hex16(text, permitted.place, b"inheritable=", table);
@@ -96,7 +96,7 @@ fn read_sets(text: &[u8], place: Place, table: &[u8; 256]) -> SetLines
 
 // The lines of securebits, by the table, and no-new-privs at a place.
 fn read_flags(text: &[u8], place: Place, table: &[u8; 256]) -> FlagLines
-    ensures { linesBy table.now flagKinds text.now place ≡ record { values = result.securebits ∷ result.nnp ∷ []; place = result.place } }
+    ensures { lines_by table.now flag_kinds text.now place ≡ record { values = result.securebits ∷ result.nnp ∷ []; place = result.place } }
 {
     let securebits = read_hex2(text, place, b"securebits=", table);
     let nnp = read_decimal(text, securebits.place, b"nnp=", LARGEST_FLAG);
@@ -110,7 +110,7 @@ fn read_flags(text: &[u8], place: Place, table: &[u8; 256]) -> FlagLines
 
 // The sheet at the start of a text, its hex digits by the table.
 pub fn read_front(text: &[u8], table: &[u8; 256]) -> Front
-    ensures { result ≡ frontBy table.now text.now }
+    ensures { result ≡ front_by table.now text.now }
 {
     let start = Place {
         at: 0,
@@ -162,7 +162,7 @@ fn judged(read: Credentials, past: usize) -> Front
 
 // A text that is to be a sheet and nothing more.
 pub fn read_sheet(text: &[u8]) -> SheetReading
-    ensures { result ≡ readSheet text.now }
+    ensures { result ≡ read_sheet text.now }
 {
     let table = reading_table();
     match read_front(text, &table) {
@@ -186,7 +186,7 @@ pub fn read_sheet(text: &[u8]) -> SheetReading
 
 // The code of a sheet's reading: 0, 70 where the text is malformed, 72 where the credentials are not valid.
 pub fn sheet_code(answer: SheetReading) -> u8
-    ensures { result ≡ sheetCode answer }
+    ensures { result ≡ sheet_code answer }
 {
     match answer {
         SheetReading::Sheet(_) => DONE,
@@ -197,7 +197,7 @@ pub fn sheet_code(answer: SheetReading) -> u8
 
 // The line of a sheet's reading, which is 0 but for a malformed text.
 pub fn sheet_line(answer: SheetReading) -> u32
-    ensures { result ≡ sheetLine answer }
+    ensures { result ≡ sheet_line answer }
 {
     match answer {
         SheetReading::Sheet(_) => 0,

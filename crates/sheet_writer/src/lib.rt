@@ -4,10 +4,10 @@
 // every argument: no public one has a `requires`. The crate assumes nothing.
 ghost use Rattle.std.specs.Prelude.{◌≡◌, List, [], ◌∷◌, ℕ, ◌+◌, ◌≤◌, length};
 ghost use Rattle.attribute.specs.Writer.{refused};
-ghost use Rattle.format.specs.Line.{decimalText};
-ghost use Rattle.format.specs.Sheet.{idKinds, setKinds, flagKinds, sheetKinds, sheetText, idValues, setValues, flagValues, sheetValues, sheetAnswer, sheetBuffer};
-ghost use Rattle.line_writer.specs.Inside.{linesPut};
-ghost use Rattle.sheet_writer.specs.Positions.{answerAt, bufferBy};
+ghost use Rattle.format.specs.Line.{decimal_text};
+ghost use Rattle.format.specs.Sheet.{id_kinds, set_kinds, flag_kinds, sheet_kinds, sheet_text, id_values, set_values, flag_values, sheet_values, sheet_answer, sheet_buffer};
+ghost use Rattle.line_writer.specs.Inside.{lines_put};
+ghost use Rattle.sheet_writer.specs.Positions.{answer_at, buffer_by};
 
 use attribute::Written;
 use codes::{DONE, INVALID_CREDENTIALS, NO_ROOM};
@@ -25,7 +25,7 @@ const SECUREBITS_DIGITS: u8 = 2;
 
 // How long the sheet of credentials is, valid or not: at most 364 bytes.
 pub fn sheet_length(held: Credentials) -> usize
-    ensures { (result ≡ length (sheetText held)) × (result ≤ 364) }
+    ensures { (result ≡ length (sheet_text held)) × (result ≤ 364) }
 {
     let users = ids_length(held.uids);
     let groups = ids_length(held.gids);
@@ -34,7 +34,7 @@ pub fn sheet_length(held: Credentials) -> usize
 
 // How many digits four IDs have together: at most 80.
 fn ids_length(ids: Ids) -> usize
-    ensures { (result ≡ length (decimalText ids.real) + length (decimalText ids.effective) + length (decimalText ids.saved) + length (decimalText ids.filesystem)) × (result ≤ 80) }
+    ensures { (result ≡ length (decimal_text ids.real) + length (decimal_text ids.effective) + length (decimal_text ids.saved) + length (decimal_text ids.filesystem)) × (result ≤ 80) }
 {
     let real = decimal_length(ids.real);
     let effective = decimal_length(ids.effective);
@@ -45,7 +45,7 @@ fn ids_length(ids: Ids) -> usize
 
 // The sheet of valid credentials at the front of a buffer: 72, then 28, and nothing written, or its length.
 pub fn write_sheet(held: Credentials, buf: &mut [u8]) -> Written
-    ensures { (result ≡ sheetAnswer held (length buf.old)) × (buf.new ≡ sheetBuffer held buf.old) }
+    ensures { (result ≡ sheet_answer held (length buf.old)) × (buf.new ≡ sheet_buffer held buf.old) }
 {
     let table = writing_table();
     write_at(buf, 0, held, &table)
@@ -54,7 +54,7 @@ pub fn write_sheet(held: Credentials, buf: &mut [u8]) -> Written
 // The sheet of valid credentials, its hex digits by the table, in place of the bytes from the position at on: 72, then 28, and nothing written, or its
 // length.
 pub fn write_at(buf: &mut [u8], at: usize, held: Credentials, table: &[u8; 16]) -> Written
-    ensures { (result ≡ answerAt held at buf.old) × (buf.new ≡ bufferBy table.now held at buf.old) }
+    ensures { (result ≡ answer_at held at buf.old) × (buf.new ≡ buffer_by table.now held at buf.old) }
 {
     if is_valid(held) {
         let size = sheet_length(held);
@@ -83,7 +83,7 @@ fn refused(code: u8) -> Written
 
 // The lines of a sheet, by the table, into buf from the position at on, each that fits: the position past them.
 fn write_lines(buf: &mut [u8], at: usize, held: Credentials, table: &[u8; 16]) -> usize
-    ensures { (result ≡ (linesPut table.now sheetKinds (sheetValues held) buf.old at).at) × (buf.new ≡ (linesPut table.now sheetKinds (sheetValues held) buf.old at).buffer) }
+    ensures { (result ≡ (lines_put table.now sheet_kinds (sheet_values held) buf.old at).at) × (buf.new ≡ (lines_put table.now sheet_kinds (sheet_values held) buf.old at).buffer) }
 {
     let p = write_ids(buf, at, held.uids, b'u');
     let q = write_ids(buf, p, held.gids, b'g');
@@ -93,7 +93,7 @@ fn write_lines(buf: &mut [u8], at: usize, held: Credentials, table: &[u8; 16]) -
 
 // The lines of four IDs, by the letter in their keys: u for users, g for groups.
 fn write_ids(buf: &mut [u8], at: usize, ids: Ids, letter: u8) -> usize
-    ensures { (table : List ℕ) → (result ≡ (linesPut table (idKinds (letter ∷ [])) (idValues ids) buf.old at).at) × (buf.new ≡ (linesPut table (idKinds (letter ∷ [])) (idValues ids) buf.old at).buffer) }
+    ensures { (table : List ℕ) → (result ≡ (lines_put table (id_kinds (letter ∷ [])) (id_values ids) buf.old at).at) × (buf.new ≡ (lines_put table (id_kinds (letter ∷ [])) (id_values ids) buf.old at).buffer) }
 {
     let real_key = [b'r', letter, b'i', b'd', b'='];
     let p = write_decimal(buf, at, &real_key, ids.real);
@@ -107,7 +107,7 @@ fn write_ids(buf: &mut [u8], at: usize, ids: Ids, letter: u8) -> usize
 
 // The lines of the capability sets, by the table.
 fn write_sets(buf: &mut [u8], at: usize, held: Sets, table: &[u8; 16]) -> usize
-    ensures { (result ≡ (linesPut table.now setKinds (setValues held) buf.old at).at) × (buf.new ≡ (linesPut table.now setKinds (setValues held) buf.old at).buffer) }
+    ensures { (result ≡ (lines_put table.now set_kinds (set_values held) buf.old at).at) × (buf.new ≡ (lines_put table.now set_kinds (set_values held) buf.old at).buffer) }
 {
     let p = write_hex(buf, at, b"permitted=", SET_DIGITS, held.permitted, table);
     let q = write_hex(buf, p, b"inheritable=", SET_DIGITS, held.inheritable, table);
@@ -118,7 +118,7 @@ fn write_sets(buf: &mut [u8], at: usize, held: Sets, table: &[u8; 16]) -> usize
 
 // The lines of securebits, by the table, and no-new-privs.
 fn write_flags(buf: &mut [u8], at: usize, securebits: u64, nnp: bool, table: &[u8; 16]) -> usize
-    ensures { (result ≡ (linesPut table.now flagKinds (flagValues securebits nnp) buf.old at).at) × (buf.new ≡ (linesPut table.now flagKinds (flagValues securebits nnp) buf.old at).buffer) }
+    ensures { (result ≡ (lines_put table.now flag_kinds (flag_values securebits nnp) buf.old at).at) × (buf.new ≡ (lines_put table.now flag_kinds (flag_values securebits nnp) buf.old at).buffer) }
 {
     let p = write_hex(
         buf,

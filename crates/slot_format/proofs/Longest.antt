@@ -4,76 +4,76 @@ use mathlib.Core.List.{List, [], ◌++◌}
 use Prim.Native.Nat.{ℕ, ◌+◌, ◌≤◌}
 use native.Mathlib.Omega.{arith}
 use lib.ListN.{length, take, length-append}
-use Rattle.format.specs.Line.{lineText, read, readLine}
-use Rattle.format.specs.Step.{stepText, read_step}
-use Rattle.format.specs.Report.{report, judgedBy}
-use Rattle.format.proofs.Alike.{Alike, value-alike, mapped-alike, next-alike, line-alike, keyed}
-use Rattle.format.proofs.Lengths.{mostKeyed, length-line, at_most}
-use Rattle.format.proofs.Longest.{length-step, step-alike, cut_at}
-use Rattle.format.proofs.Plans.{length-by, length-judged, plan-alike}
+use Rattle.format.specs.Line.{line_text, read, read_line}
+use Rattle.format.specs.Step.{step_text, read_step}
+use Rattle.format.specs.Report.{report, judged_by}
+use Rattle.format.proofs.Alike.{Alike, value_alike, mapped_alike, next_alike, line_alike, keyed}
+use Rattle.format.proofs.Lengths.{most_keyed, length_line, at_most}
+use Rattle.format.proofs.Longest.{length_step, step_alike, cut_at}
+use Rattle.format.proofs.Plans.{length_by, length_judged, plan_alike}
 use Rattle.threads.specs.Step.{SlotStep}
-use Rattle.slot_format.specs.SlotPlan.{slotKind, slotStepText, readSlotStep, slotStepLines, SlotPlan, readSlotPlan}
-use Rattle.slot_format.specs.SlotReport.{slotReportText, slotVerdict}
+use Rattle.slot_format.specs.SlotPlan.{slot_kind, slot_step_text, read_slot_step, slot_step_lines, SlotPlan, read_slot_plan}
+use Rattle.slot_format.specs.SlotReport.{slot_report_text, slot_verdict}
 use Rattle.slot_format.specs.RoundTrip.{WritableSlotStep}
-use Rattle.slot_format.specs.Longest.{longestSlotPlan, longestSlotReport, LongestOfSlots}
-use Rattle.slot_format.proofs.RoundTrip.{slot-round-trip}
-use Rattle.slot_format.proofs.Reports.{length-slot-report}
-use Rattle.slot_format.proofs.Reached.{plan, text, text-read, text-length, reported, reported-text, reported-verdict, reported-length}
+use Rattle.slot_format.specs.Longest.{longest_slot_plan, longest_slot_report, LongestOfSlots}
+use Rattle.slot_format.proofs.RoundTrip.{slot_round_trip}
+use Rattle.slot_format.proofs.Reports.{length_slot_report}
+use Rattle.slot_format.proofs.Reached.{plan, text, text_read, text_length, reported, reported_text, reported_verdict, reported_length}
 
 -- ---- slot plans
 
 -- the line of a slot has at most 8 bytes
-most-slot : mostKeyed slotKind.key slotKind.form ≤ 8
-most-slot = omega (arith, at_most 1 99 (omega arith))
+most_slot : most_keyed slot_kind.key slot_kind.form ≤ 8
+most_slot = omega (arith, at_most 1 99 (omega arith))
 
 -- with a step of 119
-length-slot-step : (s : SlotStep) → WritableSlotStep s → length (slotStepText s) ≤ 127
-unfolding slotStepText
-length-slot-step s w =
+length_slot_step : (s : SlotStep) → WritableSlotStep s → length (slot_step_text s) ≤ 127
+unfolding slot_step_text
+length_slot_step s w =
     omega (
       arith,
-      length-append (lineText slotKind s.slot) (stepText s.step),
-      length-line slotKind.key slotKind.form s.slot w.slot,
-      most-slot,
-      length-step s.step w.step,
+      length-append (line_text slot_kind s.slot) (step_text s.step),
+      length_line slot_kind.key slot_kind.form s.slot w.slot,
+      most_slot,
+      length_step s.step w.step,
     )
 
-length-plan : (text : List ℕ) (p : SlotPlan) (rest : List ℕ) → readSlotPlan text ≡ read p rest → length text ≤ longestSlotPlan
-length-plan text p rest e =
-    let r = slot-round-trip.read-written text p rest e in
-    omega (arith, ap length r.0, length-by slotStepText WritableSlotStep 127 length-slot-step p r.2)
+length_plan : (text : List ℕ) (p : SlotPlan) (rest : List ℕ) → read_slot_plan text ≡ read p rest → length text ≤ longest_slot_plan
+length_plan text p rest e =
+    let r = slot_round_trip.read_written text p rest e in
+    omega (arith, ap length r.0, length_by slot_step_text WritableSlotStep 127 length_slot_step p r.2)
 
 -- ---- reports
 
-length-verdict : (text t : List ℕ) → slotVerdict text ≡ report t → length t ≤ longestSlotReport
-unfolding slotVerdict
-length-verdict text t e =
-    length-judged slotReportText longestSlotReport (readSlotPlan text) t
-    (λ p rest q v. length-slot-report p v (slot-round-trip.read-written text p rest q).2.count) e
+length_verdict : (text t : List ℕ) → slot_verdict text ≡ report t → length t ≤ longest_slot_report
+unfolding slot_verdict
+length_verdict text t e =
+    length_judged slot_report_text longest_slot_report (read_slot_plan text) t
+    (λ p rest q v. length_slot_report p v (slot_round_trip.read_written text p rest q).2.count) e
 
 -- ---- a text that is cut
 
 -- a text that is longer than a step by so many bytes
-slot-step-alike : (u more : List ℕ) (left : ℕ) → 127 + left ≤ length u → Alike more left (readSlotStep u) (readSlotStep (u ++ more))
-unfolding readSlotStep
-slot-step-alike u more left h =
-    next-alike more left 1 (119 + left) (readLine slotKind u) (readLine slotKind (u ++ more)) _
-    (line-alike (keyed slotKind.key slotKind.form) u more (119 + left) (omega (arith, most-slot)))
-    (λ slot t g. mapped-alike more left (λ x. record { slot = slot; step = x }) (read_step t) (read_step (t ++ more)) (step-alike t more left g))
+slot_step_alike : (u more : List ℕ) (left : ℕ) → 127 + left ≤ length u → Alike more left (read_slot_step u) (read_slot_step (u ++ more))
+unfolding read_slot_step
+slot_step_alike u more left h =
+    next_alike more left 1 (119 + left) (read_line slot_kind u) (read_line slot_kind (u ++ more)) _
+    (line_alike (keyed slot_kind.key slot_kind.form) u more (119 + left) (omega (arith, most_slot)))
+    (λ slot t g. mapped_alike more left (λ x. record { slot = slot; step = x }) (read_step t) (read_step (t ++ more)) (step_alike t more left g))
 
 -- a text that is cut one byte after what a slot plan has at most
-cut : (text : List ℕ) → slotVerdict (take 32797 text) ≡ slotVerdict text
-unfolding slotVerdict
-cut = cut_at slotVerdict 32797 (λ u more h. value-alike more (judgedBy slotReportText) (λ p t s. refl) (readSlotPlan u) (readSlotPlan (u ++ more)) (plan-alike slotStepLines readSlotStep 127 slot-step-alike u more h))
+cut : (text : List ℕ) → slot_verdict (take 32797 text) ≡ slot_verdict text
+unfolding slot_verdict
+cut = cut_at slot_verdict 32797 (λ u more h. value_alike more (judged_by slot_report_text) (λ p t s. refl) (read_slot_plan u) (read_slot_plan (u ++ more)) (plan_alike slot_step_lines read_slot_step 127 slot_step_alike u more h))
 
 -- ---- the statement
 
-pub longest-of-slots : LongestOfSlots
-longest-of-slots =
+pub longest_of_slots : LongestOfSlots
+longest_of_slots =
     record {
-      plans = length-plan;
-      a-longest-plan = (text, plan, [], text-read, text-length);
-      reports = length-verdict;
-      a-longest-report = (reported-text, slotReportText reported, reported-verdict, reported-length);
+      plans = length_plan;
+      a_longest_plan = (text, plan, [], text_read, text_length);
+      reports = length_verdict;
+      a_longest_report = (reported_text, slot_report_text reported, reported_verdict, reported_length);
       cut = cut;
     }

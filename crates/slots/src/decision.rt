@@ -1,7 +1,7 @@
 // What the credentials of the named slot decide.
 ghost use Rattle.std.specs.Prelude.{◌≡◌, length};
-ghost use Rattle.rules.specs.Decoding.{usesNone};
-ghost use Rattle.threads.specs.Step.{unlessRefused, decided};
+ghost use Rattle.rules.specs.Decoding.{uses_none};
+ghost use Rattle.threads.specs.Step.{unless_refused, decided};
 ghost use Rattle.slots.specs.Turn.{step_of};
 
 use credentials::Credentials;
@@ -15,7 +15,7 @@ const EXIT: u64 = 31;
 
 // Whether no operand and no attribute is given.
 fn uses_none(a: u64, b: u64, c: u64, size: usize) -> bool
-    ensures { result ≡ usesNone a b c size }
+    ensures { result ≡ uses_none a b c size }
 {
     (a == 0) & ((b == 0) & ((c == 0) & (size == 0)))
 }
@@ -30,7 +30,7 @@ fn unless_refused(
     attribute: &[u8],
     done: Decision,
 ) -> Decision
-    ensures { result ≡ unlessRefused start (step_of number a b c attribute.now) done }
+    ensures { result ≡ unless_refused start (step_of number a b c attribute.now) done }
 {
     if credentials::is_valid(start) {
         if uses_none(a, b, c, attribute.len()) {

@@ -1,6 +1,6 @@
 // The table at the start, and the lowest free slot of a table.
 ghost use Rattle.std.specs.Prelude.{◌≡◌, length};
-ghost use Rattle.threads.specs.Table.{lowestFree, fresh};
+ghost use Rattle.threads.specs.Table.{lowest_free, fresh};
 
 use crate::SLOTS;
 use credentials::{Credentials, Ids, Sets};
@@ -47,7 +47,7 @@ pub fn fresh(sheet: Credentials) -> Threads
 // The lowest free slot by the use marks, and 96 where none is free.
 pub(crate) fn lowest_free(used: &[bool; 96]) -> usize
     requires { length used.now ≡ 96 }
-    ensures { result ≡ lowestFree used.now }
+    ensures { result ≡ lowest_free used.now }
 {
     let mut i: usize = 0;
     while i < SLOTS {

@@ -1,9 +1,9 @@
 // A step's turn: its answer, and what it stores in which slot. A loop that keeps the table hands a turn the use marks and the credentials of one slot.
 ghost use Rattle.std.specs.Prelude.{◌≡◌, ◌<◌, length};
-ghost use Rattle.threads.specs.Step.{stepIn};
-ghost use Rattle.threads.specs.Table.{lowestFree};
+ghost use Rattle.threads.specs.Step.{step_in};
+ghost use Rattle.threads.specs.Table.{lowest_free};
 ghost use Rattle.threads.specs.declared.Decision.TheVariants.{Forks};
-ghost use Rattle.slots.specs.Turn.{step_of, slotStep, place, keeps, turnBy, turn_of};
+ghost use Rattle.slots.specs.Turn.{step_of, slot_step, place, keeps, turn_by, turn_of};
 
 use crate::SLOTS;
 use crate::decision::decide;
@@ -41,7 +41,7 @@ fn keeps(slot: usize, mark: bool, held: Credentials, code: u8) -> Turn
 // A fork from a slot with these credentials: they go to the lowest free slot, or it is refused with 11.
 fn fork(marks: &[bool; 96], slot: usize, held: Credentials) -> Turn
     requires { length marks.now ≡ 96 }
-    ensures { result ≡ turnBy slot held (lowestFree marks.now) Forks }
+    ensures { result ≡ turn_by slot held (lowest_free marks.now) Forks }
 {
     let free = lowest_free(marks);
     if free < SLOTS {
@@ -60,7 +60,7 @@ fn fork(marks: &[bool; 96], slot: usize, held: Credentials) -> Turn
 // The turn in a slot in use, by what its credentials decide.
 fn carry_out(marks: &[bool; 96], slot: usize, held: Credentials, decision: Decision) -> Turn
     requires { length marks.now ≡ 96 }
-    ensures { result ≡ turnBy slot held (lowestFree marks.now) decision }
+    ensures { result ≡ turn_by slot held (lowest_free marks.now) decision }
 {
     match decision {
         Decision::Answered(answer) => Turn {
@@ -129,7 +129,7 @@ pub fn step(
     c: u64,
     attribute: &[u8],
 ) -> SlotResult
-    ensures { result ≡ stepIn table (slotStep slot number a b c attribute.now) }
+    ensures { result ≡ step_in table (slot_step slot number a b c attribute.now) }
 {
     let at = place(slot);
     let held = table.credentials[at];

@@ -3,77 +3,77 @@ use Rattle.std.specs.Prelude.{ℕ, List, [], ◌∷◌, ◌++◌, cond, eqb, leb
 use Rattle.credentials.specs.Validity.{valid}
 use Rattle.credentials.specs.declared.Credentials.{Credentials}
 use Rattle.rules.specs.Fields.{number}
-use Rattle.format.specs.Line.{bytes, Kind, kind, valueText}
-use Rattle.format.specs.Sheet.{idValues, setValues}
+use Rattle.format.specs.Line.{bytes, Kind, kind, value_text}
+use Rattle.format.specs.Sheet.{id_values, set_values}
 use Rattle.format.specs.Report.{Verdict, report, malformed, invalid}
 use Rattle.status.specs.declared.Status.{Status}
 use Rattle.status.specs.declared.Reading.{Reading}
 use Rattle.status.specs.declared.Reading.TheVariants.{Shows, Malformed}
 use Rattle.status.specs.declared.Comparison.{Comparison}
-use Rattle.status.specs.Lines.{idForm, setForm, flagForm}
-use Rattle.status.specs.Reading.{readStatus}
+use Rattle.status.specs.Lines.{id_form, set_form, flag_form}
+use Rattle.status.specs.Reading.{read_status}
 
 -- ---- what is compared
 
 -- the user IDs, the capability sets and no-new-privs, by their keys in a sheet; Listed.antt says that the keys and forms are the sheet's
-unfoldable pub idKeys : List Kind
-idKeys = kind "ruid" idForm ∷ kind "euid" idForm ∷ kind "suid" idForm ∷ kind "fsuid" idForm ∷ []
+unfoldable pub id_keys : List Kind
+id_keys = kind "ruid" id_form ∷ kind "euid" id_form ∷ kind "suid" id_form ∷ kind "fsuid" id_form ∷ []
 
-unfoldable pub setKeys : List Kind
-setKeys =
-    kind "permitted" setForm ∷
-    kind "inheritable" setForm ∷
-    kind "effective" setForm ∷
-    kind "bounding" setForm ∷
-    kind "ambient" setForm ∷
+unfoldable pub set_keys : List Kind
+set_keys =
+    kind "permitted" set_form ∷
+    kind "inheritable" set_form ∷
+    kind "effective" set_form ∷
+    kind "bounding" set_form ∷
+    kind "ambient" set_form ∷
     []
 
-unfoldable pub flagKeys : List Kind
-flagKeys = kind "nnp" flagForm ∷ []
+unfoldable pub flag_keys : List Kind
+flag_keys = kind "nnp" flag_form ∷ []
 
 -- the ten keys that are compared, in sheet order
 unfoldable pub keys : List Kind
-keys = idKeys ++ (setKeys ++ flagKeys)
+keys = id_keys ++ (set_keys ++ flag_keys)
 
 -- their values
 abbrev pub values_of : Status → List ℕ
-values_of s = idValues s.uids ++ (setValues s.sets ++ (number s.nnp ∷ []))
+values_of s = id_values s.uids ++ (set_values s.sets ++ (number s.nnp ∷ []))
 
 -- what of credentials a status text shows
-abbrev pub shownOf : Credentials → Status
-shownOf c = record { uids = c.uids; sets = c.sets; nnp = c.nnp }
+abbrev pub shown_of : Credentials → Status
+shown_of c = record { uids = c.uids; sets = c.sets; nnp = c.nnp }
 
 -- ---- the list
 
 -- key, predicted value, found value, one space between, and a newline
-unfoldable pub differenceText : Kind → ℕ → ℕ → List ℕ
-differenceText k predicted found =
-    k.key ++ (bytes " " ++ (valueText k.form predicted ++ (bytes " " ++ (valueText k.form found ++ bytes "\n"))))
+unfoldable pub difference_text : Kind → ℕ → ℕ → List ℕ
+difference_text k predicted found =
+    k.key ++ (bytes " " ++ (value_text k.form predicted ++ (bytes " " ++ (value_text k.form found ++ bytes "\n"))))
 
 -- a line for each of these keys whose values differ, in this order
 unfoldable pub differences : List Kind → List ℕ → List ℕ → List ℕ
 differences [] ps fs = []
 differences (k ∷ ks) [] fs = []
 differences (k ∷ ks) (p ∷ ps) [] = []
-differences (k ∷ ks) (p ∷ ps) (f ∷ fs) = cond (eqb p f) (differences ks ps fs) (differenceText k p f ++ differences ks ps fs)
+differences (k ∷ ks) (p ∷ ps) (f ∷ fs) = cond (eqb p f) (differences ks ps fs) (difference_text k p f ++ differences ks ps fs)
 
 -- what differs between what is predicted and what is found
 unfoldable pub differing : Status → Status → List ℕ
 differing predicted found = differences keys (values_of predicted) (values_of found)
 
 -- the last line, always
-unfoldable pub lastLine : List ℕ
-lastLine = bytes "not compared: securebits, group IDs\n"
+unfoldable pub last_line : List ℕ
+last_line = bytes "not compared: securebits, group IDs\n"
 
 -- the list as a whole
-unfoldable pub listText : Status → Status → List ℕ
-listText predicted found = differing predicted found ++ lastLine
+unfoldable pub list_text : Status → Status → List ℕ
+list_text predicted found = differing predicted found ++ last_line
 
 -- ---- the answer
 
 -- what is found, laid beside credentials: 72 where these are not valid
 unfoldable pub laid : Status → Credentials → Verdict
-laid found c = cond (valid c) (report (listText (shownOf c) found)) invalid
+laid found c = cond (valid c) (report (list_text (shown_of c) found)) invalid
 
 -- 70 comes before it
 abbrev pub beside : Reading → Credentials → Verdict
@@ -82,7 +82,7 @@ beside (Malformed line) c = malformed line
 
 -- what a status text and predicted credentials come to, before the buffer is looked at
 unfoldable pub compared : List ℕ → Credentials → Verdict
-compared text c = beside (readStatus text) c
+compared text c = beside (read_status text) c
 
 -- the code, the line and the list's length, with a buffer of some length: 28 comes last; the buffer afterwards is `buffer` of format/specs/Report.antt
 abbrev pub comparison : Verdict → ℕ → Comparison

@@ -6,7 +6,7 @@ use Rattle.format.specs.Line.{bytes}
 use Rattle.format.specs.Report.{report, malformed, buffer}
 use Rattle.status.specs.declared.Status.{Status}
 use Rattle.status.specs.declared.Reading.TheVariants.{Shows, Malformed}
-use Rattle.status.specs.Reading.{readStatus}
+use Rattle.status.specs.Reading.{read_status}
 use Rattle.status.specs.Comparing.{compared, comparison}
 
 -- ---- parts of the texts
@@ -82,59 +82,59 @@ sevens n = replicate n 7
 
 pub record TextsHold : Type 0 where
   -- other lines are passed over, whatever they hold; the sets come in the file's order, and the last newline may be missing
-  pub shown : readStatus captured ≡ Shows found
+  pub shown : read_status captured ≡ Shows found
   -- a line for each key that differs, in sheet order: key, predicted value, found value
-  pub all-differ : compared captured (holding 0 other)
+  pub all_differ : compared captured (holding 0 other)
       ≡ report
       (bytes "ruid 5 1000\neuid 6 1001\nsuid 7 1002\nfsuid 8 1003\n"
       ++ bytes "permitted 0000000000003000 0000000000000007\ninheritable 0000000000002000 0000000000000001\n"
       ++ bytes "effective 0000000000001000 0000000000000003\nbounding 000001fffffffffe 000001ffffffffff\n"
       ++ bytes "ambient 0000000000002000 0000000000000000\nnnp 0 1\nnot compared: securebits, group IDs\n")
   -- nothing differs: the last line alone, whatever the group IDs and securebits
-  pub none-differs : compared captured (holding 77 found) ≡ report (bytes "not compared: securebits, group IDs\n")
+  pub none_differs : compared captured (holding 77 found) ≡ report (bytes "not compared: securebits, group IDs\n")
   -- a found value need not be valid
   pub not_valid : compared strange none
       ≡ report
       (bytes "suid 0 4294967295\npermitted 0000000000000000 ffffffffffffffff\nbounding 0000000000000000 0000020000000000\n"
       ++ bytes "not compared: securebits, group IDs\n")
   -- no number above 4294967295, no leading zero, no empty value
-  pub above-largest : readStatus (bytes "Uid:\t0\t4294967296\t0\t0\n" ++ six) ≡ Malformed 1
-  pub leading-zero : readStatus (bytes "Name:\tx\nUid:\t0\t0\t0\t00\n" ++ six) ≡ Malformed 2
-  pub no_digit : readStatus (bytes "Uid:\t0\t\t0\t0\n" ++ six) ≡ Malformed 1
+  pub above_largest : read_status (bytes "Uid:\t0\t4294967296\t0\t0\n" ++ six) ≡ Malformed 1
+  pub leading_zero : read_status (bytes "Name:\tx\nUid:\t0\t0\t0\t00\n" ++ six) ≡ Malformed 2
+  pub no_digit : read_status (bytes "Uid:\t0\t\t0\t0\n" ++ six) ≡ Malformed 1
   -- lower-case hex digits, 16 of them; a flag is 0 or 1
-  pub upper-case : readStatus (ids ++ bytes "CapInh:\t000000000000000A\n") ≡ Malformed 2
-  pub fifteen_digits : readStatus (ids ++ bytes "CapInh:\t000000000000000\n") ≡ Malformed 2
-  pub seventeen-digits : readStatus (ids ++ bytes "CapInh:\t00000000000000000\n") ≡ Malformed 2
-  pub flag-of-two : readStatus (ids ++ five ++ bytes "NoNewPrivs:\t2\n") ≡ Malformed 7
+  pub upper_case : read_status (ids ++ bytes "CapInh:\t000000000000000A\n") ≡ Malformed 2
+  pub fifteen_digits : read_status (ids ++ bytes "CapInh:\t000000000000000\n") ≡ Malformed 2
+  pub seventeen_digits : read_status (ids ++ bytes "CapInh:\t00000000000000000\n") ≡ Malformed 2
+  pub flag_of_two : read_status (ids ++ five ++ bytes "NoNewPrivs:\t2\n") ≡ Malformed 7
   -- no CR at the end, no space for a tab
-  pub carriage-return : readStatus (bytes "Uid:\t0\t0\t0\t0" ++ (13 ∷ bytes "\n") ++ six) ≡ Malformed 1
-  pub first-space : readStatus (bytes "Uid: 0\t0\t0\t0\n" ++ six) ≡ Malformed 1
-  pub later-space : readStatus (bytes "Uid:\t0\t0 0\t0\n" ++ six) ≡ Malformed 1
+  pub carriage_return : read_status (bytes "Uid:\t0\t0\t0\t0" ++ (13 ∷ bytes "\n") ++ six) ≡ Malformed 1
+  pub first_space : read_status (bytes "Uid: 0\t0\t0\t0\n" ++ six) ≡ Malformed 1
+  pub later_space : read_status (bytes "Uid:\t0\t0 0\t0\n" ++ six) ≡ Malformed 1
   -- no value missing and none further, not even an empty one
-  pub missing : readStatus (bytes "Uid:\t0\t0\t0\n" ++ six) ≡ Malformed 1
-  pub further : readStatus (bytes "Uid:\t0\t0\t0\t0\t0\n" ++ six) ≡ Malformed 1
-  pub tab-at-the-end : readStatus (bytes "Uid:\t0\t0\t0\t0\t\n" ++ six) ≡ Malformed 1
+  pub missing : read_status (bytes "Uid:\t0\t0\t0\n" ++ six) ≡ Malformed 1
+  pub further : read_status (bytes "Uid:\t0\t0\t0\t0\t0\n" ++ six) ≡ Malformed 1
+  pub tab_at_the_end : read_status (bytes "Uid:\t0\t0\t0\t0\t\n" ++ six) ≡ Malformed 1
   -- a wanted name that comes again, at once or after all seven; one that is due later
-  pub again : readStatus (ids ++ ids ++ six) ≡ Malformed 2
-  pub again-after-all : readStatus (ids ++ six ++ bytes "x\n" ++ ids) ≡ Malformed 9
-  pub too-early : readStatus (ids ++ bytes "x\nCapPrm:\t0000000000000000\n") ≡ Malformed 3
+  pub again : read_status (ids ++ ids ++ six) ≡ Malformed 2
+  pub again_after_all : read_status (ids ++ six ++ bytes "x\n" ++ ids) ≡ Malformed 9
+  pub too_early : read_status (ids ++ bytes "x\nCapPrm:\t0000000000000000\n") ≡ Malformed 3
   -- a line that is due at the end is a fault at the line after the last, and no line begins after the last newline
-  pub empty : readStatus [] ≡ Malformed 1
-  pub one_line : readStatus (bytes "x") ≡ Malformed 2
-  pub one-line-ended : readStatus (bytes "x\n") ≡ Malformed 2
-  pub six-missing : readStatus (bytes "x\n\n" ++ ids) ≡ Malformed 4
+  pub empty : read_status [] ≡ Malformed 1
+  pub one_line : read_status (bytes "x") ≡ Malformed 2
+  pub one_line_ended : read_status (bytes "x\n") ≡ Malformed 2
+  pub six_missing : read_status (bytes "x\n\n" ++ ids) ≡ Malformed 4
   -- the first fault decides, and no line counts twice
-  pub first-fault : readStatus (bytes "\nUid\nUid:\nCapInh:\n") ≡ Malformed 3
+  pub first_fault : read_status (bytes "\nUid\nUid:\nCapInh:\n") ≡ Malformed 3
   -- 70 comes before 72, and 72 before 28
-  pub malformed-first : compared (bytes "x\n") (holding 4294967295 found) ≡ malformed 2
-  pub not-valid-first : comparison (compared captured (holding 4294967295 found)) 0 ≡ record { code = 72; line = 0; length = 0 }
+  pub malformed_first : compared (bytes "x\n") (holding 4294967295 found) ≡ malformed 2
+  pub not_valid_first : comparison (compared captured (holding 4294967295 found)) 0 ≡ record { code = 72; line = 0; length = 0 }
   -- 28 for a buffer that is too short, and else the list's length
   pub no_room : comparison (compared captured (holding 0 found)) 35 ≡ record { code = 28; line = 0; length = 0 }
   pub room : comparison (compared captured (holding 0 found)) 36 ≡ record { code = 0; line = 0; length = 36 }
-  pub with-its-line : comparison (compared (bytes "x\n") none) 36 ≡ record { code = 70; line = 2; length = 0 }
+  pub with_its_line : comparison (compared (bytes "x\n") none) 36 ≡ record { code = 70; line = 2; length = 0 }
   -- bytes past the list stay; where the comparison is refused, all bytes do
   pub list_written : buffer (compared (bytes "Uid:\t0\t0\t0\t12\n" ++ six) none) (sevens 49)
       ≡ bytes "fsuid 0 12\nnot compared: securebits, group IDs\n" ++ (7 ∷ 7 ∷ [])
-  pub no-room-buffer : buffer (compared captured (holding 0 found)) (sevens 35) ≡ sevens 35
-  pub not-valid-buffer : buffer (compared captured (holding 4294967295 found)) (sevens 36) ≡ sevens 36
-  pub malformed-buffer : buffer (compared (bytes "x\n") none) (sevens 36) ≡ sevens 36
+  pub no_room_buffer : buffer (compared captured (holding 0 found)) (sevens 35) ≡ sevens 35
+  pub not_valid_buffer : buffer (compared captured (holding 4294967295 found)) (sevens 36) ≡ sevens 36
+  pub malformed_buffer : buffer (compared (bytes "x\n") none) (sevens 36) ≡ sevens 36

@@ -1,12 +1,12 @@
 -- The line of one key at a position of a buffer, as private functions write it; no public contract cites these. Assumes nothing.
 use Rattle.std.specs.Prelude.{◌≡◌, cond, List, [], ◌++◌, ℕ, ◌+◌, eqb, length}
 use Rattle.std.proofs.lemmas.List.Edits.{sets}
-use Rattle.format.specs.Line.{bytes, Form, valueText}
+use Rattle.format.specs.Line.{bytes, Form, value_text}
 
 -- the line of a key, given with the space behind it, where its two values differ, and else nothing
 abbrev pub line_of : List ℕ → Form → ℕ → ℕ → List ℕ
 line_of key form predicted found =
-    cond (eqb predicted found) [] (key ++ (valueText form predicted ++ (bytes " " ++ (valueText form found ++ bytes "\n"))))
+    cond (eqb predicted found) [] (key ++ (value_text form predicted ++ (bytes " " ++ (value_text form found ++ bytes "\n"))))
 
 -- a text stands in place of the bytes from a position on: the buffer before and after, and the position past the text
 pub record Put (old : List ℕ) (at : ℕ) (t new : List ℕ) (past : ℕ) : Type 0 where

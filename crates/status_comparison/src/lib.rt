@@ -3,11 +3,11 @@
 // The list itself is defined in the crate `status`; the table that its hex digits are written by is made once and lent. Every function is proved, for
 // every argument: no public one has a `requires`. The crate assumes nothing.
 ghost use Rattle.std.specs.Prelude.{◌≡◌, ◌+◌, ◌≤◌, length};
-ghost use Rattle.format.specs.Sheet.{idValues, setValues};
+ghost use Rattle.format.specs.Sheet.{id_values, set_values};
 ghost use Rattle.format.specs.Report.{buffer};
-ghost use Rattle.hex_tables.specs.Tables.{writingTable};
-ghost use Rattle.status.specs.Lines.{idForm, setForm};
-ghost use Rattle.status.specs.Comparing.{idKeys, setKeys, shownOf, differences, listText, laid, compared, comparison};
+ghost use Rattle.hex_tables.specs.Tables.{writing_table};
+ghost use Rattle.status.specs.Lines.{id_form, set_form};
+ghost use Rattle.status.specs.Comparing.{id_keys, set_keys, shown_of, differences, list_text, laid, compared, comparison};
 ghost use Rattle.status_comparison.specs.Inside.{line_of, Put};
 
 use codes::{DONE, INVALID_CREDENTIALS, MALFORMED, NO_ROOM};
@@ -76,7 +76,7 @@ fn refused(code: u8) -> Comparison
 
 // How long the list is, whatever the IDs: at most 490 bytes.
 fn list_length(predicted: Credentials, found: Status) -> usize
-    ensures { (result ≡ length (listText (shownOf predicted) found)) × (result ≤ 490) }
+    ensures { (result ≡ length (list_text (shown_of predicted) found)) × (result ≤ 490) }
 {
     let ids = ids_length(predicted.uids, found.uids);
     let sets = sets_length(predicted.sets, found.sets);
@@ -86,7 +86,7 @@ fn list_length(predicted: Credentials, found: Status) -> usize
 
 // How long the lines of the user IDs are: at most 189 bytes.
 fn ids_length(predicted: Ids, found: Ids) -> usize
-    ensures { (result ≡ length (differences idKeys (idValues predicted) (idValues found))) × (result ≤ 189) }
+    ensures { (result ≡ length (differences id_keys (id_values predicted) (id_values found))) × (result ≤ 189) }
 {
     let real = id_length(b"ruid ", predicted.real, found.real);
     let effective = id_length(b"euid ", predicted.effective, found.effective);
@@ -97,7 +97,7 @@ fn ids_length(predicted: Ids, found: Ids) -> usize
 
 // How long the lines of the capability sets are: at most 219 bytes.
 fn sets_length(predicted: Sets, found: Sets) -> usize
-    ensures { (result ≡ length (differences setKeys (setValues predicted) (setValues found))) × (result ≤ 219) }
+    ensures { (result ≡ length (differences set_keys (set_values predicted) (set_values found))) × (result ≤ 219) }
 {
     let permitted = set_length(b"permitted ", predicted.permitted, found.permitted);
     let inheritable = set_length(b"inheritable ", predicted.inheritable, found.inheritable);
@@ -109,7 +109,7 @@ fn sets_length(predicted: Sets, found: Sets) -> usize
 
 // How long the line of a key with decimal values is, which have at most 20 digits each.
 fn id_length(key: &[u8], predicted: u64, found: u64) -> usize
-    ensures { (result ≡ length (line_of key.now idForm predicted found)) × (result ≤ length key.now + 42) }
+    ensures { (result ≡ length (line_of key.now id_form predicted found)) × (result ≤ length key.now + 42) }
 {
     if predicted == found {
         return 0;
@@ -119,7 +119,7 @@ fn id_length(key: &[u8], predicted: u64, found: u64) -> usize
 
 // How long the line of a set is.
 fn set_length(key: &[u8], predicted: u64, found: u64) -> usize
-    ensures { (result ≡ length (line_of key.now setForm predicted found)) × (result ≤ length key.now + 34) }
+    ensures { (result ≡ length (line_of key.now set_form predicted found)) × (result ≤ length key.now + 34) }
 {
     if predicted == found {
         return 0;
@@ -132,8 +132,8 @@ fn set_length(key: &[u8], predicted: u64, found: u64) -> usize
 
 // The list at the front of a buffer that it fits.
 fn write_list(list: &mut [u8], predicted: Credentials, found: Status, table: &[u8; 16]) -> usize
-    requires { (length (listText (shownOf predicted) found) ≤ length list.old) × (table.now ≡ writingTable) }
-    ensures { Put list.old 0 (listText (shownOf predicted) found) list.new result }
+    requires { (length (list_text (shown_of predicted) found) ≤ length list.old) × (table.now ≡ writing_table) }
+    ensures { Put list.old 0 (list_text (shown_of predicted) found) list.new result }
 {
     let p = write_ids(list, 0, predicted.uids, found.uids);
     let q = write_sets(list, p, predicted.sets, found.sets, table);
@@ -143,8 +143,8 @@ fn write_list(list: &mut [u8], predicted: Credentials, found: Status, table: &[u
 
 // The lines of the user IDs: the position past them.
 fn write_ids(list: &mut [u8], at: usize, predicted: Ids, found: Ids) -> usize
-    requires { at + length (differences idKeys (idValues predicted) (idValues found)) ≤ length list.old }
-    ensures { Put list.old at (differences idKeys (idValues predicted) (idValues found)) list.new result }
+    requires { at + length (differences id_keys (id_values predicted) (id_values found)) ≤ length list.old }
+    ensures { Put list.old at (differences id_keys (id_values predicted) (id_values found)) list.new result }
 {
     let p = write_id(list, at, b"ruid ", predicted.real, found.real);
     let q = write_id(list, p, b"euid ", predicted.effective, found.effective);
@@ -154,8 +154,8 @@ fn write_ids(list: &mut [u8], at: usize, predicted: Ids, found: Ids) -> usize
 
 // The lines of the capability sets: the position past them.
 fn write_sets(list: &mut [u8], at: usize, predicted: Sets, found: Sets, table: &[u8; 16]) -> usize
-    requires { (at + length (differences setKeys (setValues predicted) (setValues found)) ≤ length list.old) × (table.now ≡ writingTable) }
-    ensures { Put list.old at (differences setKeys (setValues predicted) (setValues found)) list.new result }
+    requires { (at + length (differences set_keys (set_values predicted) (set_values found)) ≤ length list.old) × (table.now ≡ writing_table) }
+    ensures { Put list.old at (differences set_keys (set_values predicted) (set_values found)) list.new result }
 {
     let p = write_set(
         list,
@@ -201,8 +201,8 @@ fn write_sets(list: &mut [u8], at: usize, predicted: Sets, found: Sets, table: &
 
 // The line of a key with decimal values, where they differ: the position past it. The second value goes over the newline behind the first.
 fn write_id(list: &mut [u8], at: usize, key: &[u8], predicted: u64, found: u64) -> usize
-    requires { at + length (line_of key.now idForm predicted found) ≤ length list.old }
-    ensures { Put list.old at (line_of key.now idForm predicted found) list.new result }
+    requires { at + length (line_of key.now id_form predicted found) ≤ length list.old }
+    ensures { Put list.old at (line_of key.now id_form predicted found) list.new result }
 {
     if predicted == found {
         return at;
@@ -220,8 +220,8 @@ fn write_set(
     found: u64,
     table: &[u8; 16],
 ) -> usize
-    requires { (at + length (line_of key.now setForm predicted found) ≤ length list.old) × (table.now ≡ writingTable) }
-    ensures { Put list.old at (line_of key.now setForm predicted found) list.new result }
+    requires { (at + length (line_of key.now set_form predicted found) ≤ length list.old) × (table.now ≡ writing_table) }
+    ensures { Put list.old at (line_of key.now set_form predicted found) list.new result }
 {
     if predicted == found {
         return at;

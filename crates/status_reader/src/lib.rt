@@ -4,7 +4,7 @@
 // defined in the crate `status`; the table that digits are read by is made once and lent. Every function is proved, for every argument: no public one
 // has a `requires`. The crate assumes nothing.
 ghost use Rattle.std.specs.Prelude.{◌≡◌};
-ghost use Rattle.status.specs.Reading.{readStatus};
+ghost use Rattle.status.specs.Reading.{read_status};
 
 mod lines;
 mod places;
@@ -17,7 +17,7 @@ use status::{Reading, Status};
 
 // What a status text shows, or the line at which it is malformed.
 pub fn read_status(text: &[u8]) -> Reading
-    ensures { result ≡ readStatus text.now }
+    ensures { result ≡ read_status text.now }
 {
     let table = reading_table();
     let start = Place {

@@ -1,10 +1,10 @@
 // A line, without its newline: whether it is wanted, and the values of each kind of wanted line.
 ghost use Rattle.std.specs.Prelude.{◌≡◌, ◌+◌, ◌≤◌, List, [], ◌∷◌, length, drop};
 ghost use Rattle.format.specs.Line.{Form, starts_with};
-ghost use Rattle.hex_tables.specs.Tables.{readingTable};
-ghost use Rattle.status.specs.Lines.{idForm, idsEntry, flagEntry, setForm, wanted};
+ghost use Rattle.hex_tables.specs.Tables.{reading_table};
+ghost use Rattle.status.specs.Lines.{id_form, ids_entry, flag_entry, set_form, wanted};
 ghost use Rattle.status.specs.Reading.{up_to, read_entry};
-ghost use Rattle.status_reader.specs.Inside.{behindTab, idsRead, IdWithin, lineRead, partRead, PartWithin, wideRead};
+ghost use Rattle.status_reader.specs.Inside.{behind_tab, ids_read, IdWithin, line_read, part_read, PartWithin, wide_read};
 
 use crate::values::{Value, decimal_value, set_value};
 use credentials::Ids;
@@ -99,7 +99,7 @@ pub(crate) fn is_wanted(line: &[u8]) -> bool
 
 // Where the first value of the line of a name begins.
 fn values_of(line: &[u8], name: &[u8]) -> Values
-    ensures { ((f : Form) (fs : List Form) → partRead result line.now f fs ≡ read_entry (record { name = name.entry.now; forms = f ∷ fs }) line.now) × PartWithin result (length line.now) }
+    ensures { ((f : Form) (fs : List Form) → part_read result line.now f fs ≡ read_entry (record { name = name.entry.now; forms = f ∷ fs }) line.now) × PartWithin result (length line.now) }
 {
     if starts_with(line, name) {
         let n = name.len();
@@ -114,8 +114,8 @@ fn values_of(line: &[u8], name: &[u8]) -> Values
 
 // The set of the line of a name.
 pub(crate) fn set_line(line: &[u8], name: &[u8], table: &[u8; 256]) -> Value
-    requires { table.now ≡ readingTable }
-    ensures { lineRead result ≡ read_entry (record { name = name.entry.now; forms = setForm ∷ [] }) line.now }
+    requires { table.now ≡ reading_table }
+    ensures { line_read result ≡ read_entry (record { name = name.entry.now; forms = set_form ∷ [] }) line.now }
 {
     let Values::From(p) = values_of(line, name) else {
         return Value::Fault;
@@ -125,8 +125,8 @@ pub(crate) fn set_line(line: &[u8], name: &[u8], table: &[u8; 256]) -> Value
 
 // The flag of no-new-privs' line.
 pub(crate) fn flag_line(line: &[u8], table: &[u8; 256]) -> Value
-    requires { table.now ≡ readingTable }
-    ensures { lineRead result ≡ read_entry flagEntry line.now }
+    requires { table.now ≡ reading_table }
+    ensures { line_read result ≡ read_entry flag_entry line.now }
 {
     let Values::From(p) = values_of(line, b"NoNewPrivs:") else {
         return Value::Fault;
@@ -136,8 +136,8 @@ pub(crate) fn flag_line(line: &[u8], table: &[u8; 256]) -> Value
 
 // The ID from the position at up to the next tab, behind which the next value begins.
 fn id_at(line: &[u8], at: usize, table: &[u8; 256]) -> Id
-    requires { (at ≤ length line.now) × (table.now ≡ readingTable) }
-    ensures { ((f : Form) (fs : List Form) → wideRead result line.now f fs ≡ behindTab idForm (f ∷ fs) (drop at line.now)) × IdWithin result (length line.now) }
+    requires { (at ≤ length line.now) × (table.now ≡ reading_table) }
+    ensures { ((f : Form) (fs : List Form) → wide_read result line.now f fs ≡ behind_tab id_form (f ∷ fs) (drop at line.now)) × IdWithin result (length line.now) }
 {
     let end = find(line, at, TAB);
     if end == line.len() {
@@ -151,8 +151,8 @@ fn id_at(line: &[u8], at: usize, table: &[u8; 256]) -> Id
 
 // The four user IDs of their line.
 pub(crate) fn ids_line(line: &[u8], table: &[u8; 256]) -> IdsLine
-    requires { table.now ≡ readingTable }
-    ensures { idsRead result ≡ read_entry idsEntry line.now }
+    requires { table.now ≡ reading_table }
+    ensures { ids_read result ≡ read_entry ids_entry line.now }
 {
     let Values::From(p) = values_of(line, b"Uid:") else {
         return IdsLine::Fault;

@@ -1,8 +1,8 @@
 // The next wanted line from a place on: its values and the place past it. After a fault nothing is read.
 ghost use Rattle.std.specs.Prelude.{◌≡◌, ◌+◌, ◌≤◌, List, [], ◌∷◌, length};
-ghost use Rattle.hex_tables.specs.Tables.{readingTable};
-ghost use Rattle.status.specs.Lines.{Entry, flagEntry, setForm};
-ghost use Rattle.status_reader.specs.Inside.{from, found, Extent, Good, IdsAhead, NumberAhead, DueAhead, DueGood, Short, pastLine, faultAtLine, onward};
+ghost use Rattle.hex_tables.specs.Tables.{reading_table};
+ghost use Rattle.status.specs.Lines.{Entry, flag_entry, set_form};
+ghost use Rattle.status_reader.specs.Inside.{from, found, Extent, Good, IdsAhead, NumberAhead, DueAhead, DueGood, Short, past_line, fault_at_line, onward};
 
 use crate::lines::{IdsLine, find, flag_line, ids_line, is_wanted, set_line};
 use crate::values::Value;
@@ -94,7 +94,7 @@ fn due_line(text: &[u8], place: Place) -> Due
 // The line that is at fault.
 fn fault_at_line(line: Wanted) -> Place
     requires { Short line }
-    ensures { result ≡ faultAtLine line }
+    ensures { result ≡ fault_at_line line }
 {
     Place {
         at: line.to,
@@ -106,7 +106,7 @@ fn fault_at_line(line: Wanted) -> Place
 // The place past a line that was read.
 fn past_line(line: Wanted) -> Place
     requires { Short line }
-    ensures { result ≡ pastLine line }
+    ensures { result ≡ past_line line }
 {
     Place {
         at: line.to + 1,
@@ -134,8 +134,8 @@ fn onward(line: Wanted, value: Value) -> Number
 
 // The set of the line of a name, which is due.
 pub(crate) fn read_set(text: &[u8], place: Place, name: &[u8], table: &[u8; 256]) -> Number
-    requires { (table.now ≡ readingTable) × Good place (length text.now) }
-    ensures { NumberAhead result text.now place (record { name = name.entry.now; forms = setForm ∷ [] }) × Good result.place (length text.now) }
+    requires { (table.now ≡ reading_table) × Good place (length text.now) }
+    ensures { NumberAhead result text.now place (record { name = name.entry.now; forms = set_form ∷ [] }) × Good result.place (length text.now) }
 {
     match due_line(text, place) {
         Due::Fault(place) => Number { value: 0, place },
@@ -149,8 +149,8 @@ pub(crate) fn read_set(text: &[u8], place: Place, name: &[u8], table: &[u8; 256]
 
 // The flag of no-new-privs' line, which is due.
 pub(crate) fn read_flag(text: &[u8], place: Place, table: &[u8; 256]) -> Number
-    requires { (table.now ≡ readingTable) × Good place (length text.now) }
-    ensures { NumberAhead result text.now place flagEntry × Good result.place (length text.now) }
+    requires { (table.now ≡ reading_table) × Good place (length text.now) }
+    ensures { NumberAhead result text.now place flag_entry × Good result.place (length text.now) }
 {
     match due_line(text, place) {
         Due::Fault(place) => Number { value: 0, place },
@@ -164,7 +164,7 @@ pub(crate) fn read_flag(text: &[u8], place: Place, table: &[u8; 256]) -> Number
 
 // The four user IDs of their line, which is due.
 pub(crate) fn read_ids(text: &[u8], place: Place, table: &[u8; 256]) -> Users
-    requires { (table.now ≡ readingTable) × Good place (length text.now) }
+    requires { (table.now ≡ reading_table) × Good place (length text.now) }
     ensures { IdsAhead result text.now place × Good result.place (length text.now) }
 {
     let none = Ids {

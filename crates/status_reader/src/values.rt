@@ -1,10 +1,10 @@
 // A value: the part of a line between a tab and the next, or the line's end.
 ghost use Rattle.std.specs.Prelude.{◌≡◌};
-ghost use Rattle.format.specs.Line.{decimal, hexDigit};
-ghost use Rattle.hex_tables.specs.Tables.{readingTable};
-ghost use Rattle.status.specs.Lines.{setForm};
+ghost use Rattle.format.specs.Line.{decimal, hex_digit};
+ghost use Rattle.hex_tables.specs.Tables.{reading_table};
+ghost use Rattle.status.specs.Lines.{set_form};
 ghost use Rattle.status.specs.Reading.{value_of};
-ghost use Rattle.status_reader.specs.Inside.{valueRead};
+ghost use Rattle.status_reader.specs.Inside.{value_read};
 
 use codes::wide;
 
@@ -20,8 +20,8 @@ pub(crate) enum Value {
 
 // What b is as a hex digit: above 15 it is none, and above 9 no decimal digit.
 fn digit(table: &[u8; 256], b: u8) -> u64
-    requires { table.now ≡ readingTable }
-    ensures { result ≡ hexDigit b }
+    requires { table.now ≡ reading_table }
+    ensures { result ≡ hex_digit b }
 {
     let i = b as usize;
     wide(table[i])
@@ -29,8 +29,8 @@ fn digit(table: &[u8; 256], b: u8) -> u64
 
 // The part as a capability set.
 pub(crate) fn set_value(part: &[u8], table: &[u8; 256]) -> Value
-    requires { table.now ≡ readingTable }
-    ensures { valueRead result ≡ value_of setForm part.now }
+    requires { table.now ≡ reading_table }
+    ensures { value_read result ≡ value_of set_form part.now }
 {
     if part.len() != SET_DIGITS {
         return Value::Fault;
@@ -50,8 +50,8 @@ pub(crate) fn set_value(part: &[u8], table: &[u8; 256]) -> Value
 
 // The part as a decimal number up to largest.
 pub(crate) fn decimal_value(part: &[u8], largest: u32, table: &[u8; 256]) -> Value
-    requires { table.now ≡ readingTable }
-    ensures { valueRead result ≡ value_of (decimal largest) part.now }
+    requires { table.now ≡ reading_table }
+    ensures { value_read result ≡ value_of (decimal largest) part.now }
 {
     let n = part.len();
     if n == 0 {

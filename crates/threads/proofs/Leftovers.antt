@@ -13,10 +13,10 @@ use Rattle.threads.specs.declared.Decision.{Decision}
 use Rattle.threads.specs.declared.Decision.TheVariants.{Answered, Forks, Exits}
 use Rattle.threads.specs.declared.SlotResult.{SlotResult}
 use Rattle.threads.specs.declared.Threads.{Threads}
-use Rattle.threads.specs.Table.{SLOTS, empty, held, inUse, withCredentials, withMark, lowestFree}
-use Rattle.threads.specs.Step.{SlotStep, decided, refused, forked, carriedOut, stepIn}
+use Rattle.threads.specs.Table.{SLOTS, empty, held, in_use, with_credentials, with_mark, lowest_free}
+use Rattle.threads.specs.Step.{SlotStep, decided, refused, forked, carried_out, step_in}
 use Rattle.threads.specs.Slots.{Sized, SameInUse, SameAnswer}
-use Rattle.threads.proofs.Free.{lowest-same}
+use Rattle.threads.proofs.Free.{lowest_same}
 use Rattle.threads.proofs.Tests.{equal_or_not, different}
 
 -- two results are the same answer, and their tables the same in use
@@ -25,30 +25,30 @@ Agree p q = SameAnswer p q × SameInUse p.table q.table
 
 module _ (one other : Threads) (y : Sized one) (z : Sized other) (same : SameInUse one other) (k : ℕ) (within : k < SLOTS) where
   -- the same credentials are stored in a slot
-  stored_same : (c : Credentials) → SameInUse (withCredentials one k c) (withCredentials other k c)
+  stored_same : (c : Credentials) → SameInUse (with_credentials one k c) (with_credentials other k c)
   stored_same c =
       record {
         used = same.used;
         credentials = λ i u.
             ⊎_elim
-            (λ (e : i ≡ k). ap (λ (n : ℕ). held (withCredentials one k c) n) e ∙ here ∙ ap (λ (n : ℕ). held (withCredentials other k c) n) (sym e))
+            (λ (e : i ≡ k). ap (λ (n : ℕ). held (with_credentials one k c) n) e ∙ here ∙ ap (λ (n : ℕ). held (with_credentials other k c) n) (sym e))
             (λ (ne : eqb i k ≡ false).
             get_or-set_other one.credentials k i c empty (different i k ne) ∙ same.credentials i u ∙ sym (get_or-set_other other.credentials k i c empty (different i k ne)))
             (equal_or_not i k);
       }
     where
-      here : held (withCredentials one k c) k ≡ held (withCredentials other k c) k
+      here : held (with_credentials one k c) k ≡ held (with_credentials other k c) k
       here =
           get_or-set_same one.credentials k c empty (subst (λ (n : ℕ). k < n) (sym y.credentials) within)
           ∙ sym (get_or-set_same other.credentials k c empty (subst (λ (n : ℕ). k < n) (sym z.credentials) within))
 
   -- a slot that has the same credentials in both is marked
-  marked-same : (mark : Bool) → held one k ≡ held other k → SameInUse (withMark one k mark) (withMark other k mark)
-  marked-same mark h =
+  marked_same : (mark : Bool) → held one k ≡ held other k → SameInUse (with_mark one k mark) (with_mark other k mark)
+  marked_same mark h =
       record {
         used = λ i.
             ⊎_elim
-            (λ (e : i ≡ k). ap (λ (n : ℕ). inUse (withMark one k mark) n) e ∙ here ∙ ap (λ (n : ℕ). inUse (withMark other k mark) n) (sym e))
+            (λ (e : i ≡ k). ap (λ (n : ℕ). in_use (with_mark one k mark) n) e ∙ here ∙ ap (λ (n : ℕ). in_use (with_mark other k mark) n) (sym e))
             (λ (ne : eqb i k ≡ false).
             get_or-set_other one.used k i mark false (different i k ne) ∙ same.used i ∙ sym (get_or-set_other other.used k i mark false (different i k ne)))
             (equal_or_not i k);
@@ -59,7 +59,7 @@ module _ (one other : Threads) (y : Sized one) (z : Sized other) (same : SameInU
             (equal_or_not i k);
       }
     where
-      here : inUse (withMark one k mark) k ≡ inUse (withMark other k mark) k
+      here : in_use (with_mark one k mark) k ≡ in_use (with_mark other k mark) k
       here =
           get_or-set_same one.used k mark false (subst (λ (n : ℕ). k < n) (sym y.used) within)
           ∙ sym (get_or-set_same other.used k mark false (subst (λ (n : ℕ). k < n) (sym z.used) within))
@@ -67,45 +67,45 @@ module _ (one other : Threads) (y : Sized one) (z : Sized other) (same : SameInU
 -- ---- one step
 
 module _ (one other : Threads) (y : Sized one) (z : Sized other) (same : SameInUse one other) where
-  refused-same : (n : ℕ) → Agree (refused one n) (refused other n)
-  refused-same n = (record { code = refl; value = refl; cause = refl }, same)
+  refused_same : (n : ℕ) → Agree (refused one n) (refused other n)
+  refused_same n = (record { code = refl; value = refl; cause = refl }, same)
 
-  forked-same : (caller : Credentials) (free : ℕ) → Agree (forked one caller free) (forked other caller free)
+  forked_same : (caller : Credentials) (free : ℕ) → Agree (forked one caller free) (forked other caller free)
   unfolding forked
-  forked-same caller free = by (ltb free SLOTS) refl
+  forked_same caller free = by (ltb free SLOTS) refl
     where
       by : (t : Bool) → ltb free SLOTS ≡ t
-          → Agree (cond t (record { code = 0; value = free; cause = 0; table = withMark (withCredentials one free caller) free true }) (refused one 11))
-          (cond t (record { code = 0; value = free; cause = 0; table = withMark (withCredentials other free caller) free true }) (refused other 11))
+          → Agree (cond t (record { code = 0; value = free; cause = 0; table = with_mark (with_credentials one free caller) free true }) (refused one 11))
+          (cond t (record { code = 0; value = free; cause = 0; table = with_mark (with_credentials other free caller) free true }) (refused other 11))
       by true h =
           let w = ltb-true free SLOTS h in
-          let set-one = get_or-set_same one.credentials free caller empty (subst (λ (n : ℕ). free < n) (sym y.credentials) w) in
+          let set_one = get_or-set_same one.credentials free caller empty (subst (λ (n : ℕ). free < n) (sym y.credentials) w) in
           let set_other = get_or-set_same other.credentials free caller empty (subst (λ (n : ℕ). free < n) (sym z.credentials) w) in (
             record { code = refl; value = refl; cause = refl },
-            marked-same (withCredentials one free caller) (withCredentials other free caller)
+            marked_same (with_credentials one free caller) (with_credentials other free caller)
                 (record { credentials = length-set one.credentials free caller ∙ y.credentials; used = y.used })
                 (record { credentials = length-set other.credentials free caller ∙ z.credentials; used = z.used })
-                (stored_same one other y z same free w caller) free w true (set-one ∙ sym set_other),
+                (stored_same one other y z same free w caller) free w true (set_one ∙ sym set_other),
           )
-      by false h = refused-same 11
+      by false h = refused_same 11
 
   -- in a slot in use, which has the same credentials in both
-  carried_same : (slot : ℕ) → slot < SLOTS → held one slot ≡ held other slot → (d : Decision) → Agree (carriedOut one slot d) (carriedOut other slot d)
+  carried_same : (slot : ℕ) → slot < SLOTS → held one slot ≡ held other slot → (d : Decision) → Agree (carried_out one slot d) (carried_out other slot d)
   carried_same slot w h (Answered r) =
       rw (← h) (record { code = refl; value = refl; cause = refl }, stored_same one other y z same slot w (after (held one slot) r))
-  carried_same slot w h Forks = rw (← h, lowest-same one.used other.used same.used) (forked-same (held one slot) (lowestFree other.used))
-  carried_same slot w h Exits = (record { code = refl; value = refl; cause = refl }, marked-same one other y z same slot w false h)
+  carried_same slot w h Forks = rw (← h, lowest_same one.used other.used same.used) (forked_same (held one slot) (lowest_free other.used))
+  carried_same slot w h Exits = (record { code = refl; value = refl; cause = refl }, marked_same one other y z same slot w false h)
 
-pub leftovers : (one other : Threads) (s : SlotStep) → Sized one → Sized other → SameInUse one other → Agree (stepIn one s) (stepIn other s)
-unfolding stepIn
-leftovers one other s y z same = rw (← (same.used s.slot)) (by (ltb s.slot SLOTS) (inUse one s.slot) refl refl)
+pub leftovers : (one other : Threads) (s : SlotStep) → Sized one → Sized other → SameInUse one other → Agree (step_in one s) (step_in other s)
+unfolding step_in
+leftovers one other s y z same = rw (← (same.used s.slot)) (by (ltb s.slot SLOTS) (in_use one s.slot) refl refl)
   where
-    by : (w u : Bool) → ltb s.slot SLOTS ≡ w → inUse one s.slot ≡ u
-        → Agree (cond w (cond u (carriedOut one s.slot (decided (held one s.slot) s.step)) (refused one 3)) (refused one 22))
-        (cond w (cond u (carriedOut other s.slot (decided (held other s.slot) s.step)) (refused other 3)) (refused other 22))
+    by : (w u : Bool) → ltb s.slot SLOTS ≡ w → in_use one s.slot ≡ u
+        → Agree (cond w (cond u (carried_out one s.slot (decided (held one s.slot) s.step)) (refused one 3)) (refused one 22))
+        (cond w (cond u (carried_out other s.slot (decided (held other s.slot) s.step)) (refused other 3)) (refused other 22))
     by true true w u =
         let h = same.credentials s.slot u in
-        subst (λ (c : Credentials). Agree (carriedOut one s.slot (decided (held one s.slot) s.step)) (carriedOut other s.slot (decided c s.step))) h
+        subst (λ (c : Credentials). Agree (carried_out one s.slot (decided (held one s.slot) s.step)) (carried_out other s.slot (decided c s.step))) h
         (carried_same one other y z same s.slot (ltb-true s.slot SLOTS w) h (decided (held one s.slot) s.step))
-    by true false w u = refused-same one other y z same 3
-    by false u w v = refused-same one other y z same 22
+    by true false w u = refused_same one other y z same 3
+    by false u w v = refused_same one other y z same 22

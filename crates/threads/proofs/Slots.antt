@@ -1,31 +1,31 @@
 -- What a step does to the slots, and what its answer depends on: every field of the statement holds. Assumes nothing.
 use Rattle.threads.specs.Slots.{Slots}
-use Rattle.threads.proofs.WhichAnswer.{no_slot, not-in-use, invalid, call, fork-operands, exit-operands, exit, fork, fork-full, eleven}
-use Rattle.threads.proofs.WhatChanges.{sized, refusal, elsewhere, fork-elsewhere, free-until-forked, taken-again}
+use Rattle.threads.proofs.WhichAnswer.{no_slot, not_in_use, invalid, call, fork_operands, exit_operands, exit, fork, fork_full, eleven}
+use Rattle.threads.proofs.WhatChanges.{sized, refusal, elsewhere, fork_elsewhere, free_until_forked, taken_again}
 use Rattle.threads.proofs.Leftovers.{leftovers}
-use Rattle.threads.proofs.Depending.{answer-same, fork-code, fork-room}
+use Rattle.threads.proofs.Depending.{answer_same, fork_code, fork_room}
 
 pub slots : Slots
 slots =
     record {
       sized = sized;
       no_slot = no_slot;
-      not-in-use = not-in-use;
+      not_in_use = not_in_use;
       invalid = invalid;
       call = call;
-      fork-operands = fork-operands;
-      exit-operands = exit-operands;
+      fork_operands = fork_operands;
+      exit_operands = exit_operands;
       exit = exit;
       fork = fork;
-      fork-full = fork-full;
+      fork_full = fork_full;
       eleven = eleven;
       refusal = refusal;
       elsewhere = elsewhere;
-      fork-elsewhere = fork-elsewhere;
-      free-until-forked = free-until-forked;
-      taken-again = taken-again;
-      answer = answer-same;
-      fork-code = fork-code;
-      fork-room = fork-room;
+      fork_elsewhere = fork_elsewhere;
+      free_until_forked = free_until_forked;
+      taken_again = taken_again;
+      answer = answer_same;
+      fork_code = fork_code;
+      fork_room = fork_room;
       leftovers = leftovers;
     }

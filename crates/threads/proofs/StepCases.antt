@@ -11,7 +11,7 @@ use borrow.Author.Tests.{ltb-true, ltb-false}
 use Rattle.credentials.specs.Validity.{valid}
 use Rattle.credentials.specs.declared.Credentials.{Credentials}
 use Rattle.rules.specs.Call.{answer}
-use Rattle.rules.specs.Decoding.{usesNone}
+use Rattle.rules.specs.Decoding.{uses_none}
 use Rattle.rules.specs.Run.{Step}
 use Rattle.rules.specs.declared.Answer.{Answer}
 use Rattle.rules.specs.declared.Answer.TheVariants.{InvalidArgument, InvalidCredentials}
@@ -20,38 +20,38 @@ use Rattle.threads.specs.declared.Decision.{Decision}
 use Rattle.threads.specs.declared.Decision.TheVariants.{Answered, Forks, Exits}
 use Rattle.threads.specs.declared.SlotResult.{SlotResult}
 use Rattle.threads.specs.declared.Threads.{Threads}
-use Rattle.threads.specs.Table.{SLOTS, empty, held, inUse, lowestFree}
-use Rattle.threads.specs.Step.{SlotStep, FORK, EXIT, unlessRefused, decided, refused, answered, forked, exited, carriedOut, stepIn}
+use Rattle.threads.specs.Table.{SLOTS, empty, held, in_use, lowest_free}
+use Rattle.threads.specs.Step.{SlotStep, FORK, EXIT, unless_refused, decided, refused, answered, forked, exited, carried_out, step_in}
 
 -- what the slot's credentials decide: what holds of each decision that the tests on the way lead to holds of it
 module _ (start : Credentials) (x : Step) (P : Decision → Type 0) where
-  pub decided-cases :
+  pub decided_cases :
       (eqb x.number FORK || eqb x.number EXIT ≡ true → P (Answered InvalidArgument))
       → (eqb x.number FORK || eqb x.number EXIT ≡ true → P (Answered InvalidCredentials))
       → (eqb x.number FORK ≡ true → valid start ≡ true → P Forks)
       → (eqb x.number FORK ≡ false → eqb x.number EXIT ≡ true → P Exits)
       → (eqb x.number FORK ≡ false → eqb x.number EXIT ≡ false → P (Answered (answer start x.number x.a x.b x.c x.attribute)))
       → P (decided start x)
-  unfolding decided unlessRefused
-  decided-cases operands invalid forks exits calls =
+  unfolding decided unless_refused
+  decided_cases operands invalid forks exits calls =
       cond_cases P (eqb x.number FORK) _ _
       (λ f. cond_cases P (valid start) _ _
-      (λ v. cond_cases P (usesNone x.a x.b x.c (length x.attribute)) _ _ (λ u. forks f v) (λ u. operands (rw f)))
+      (λ v. cond_cases P (uses_none x.a x.b x.c (length x.attribute)) _ _ (λ u. forks f v) (λ u. operands (rw f)))
       (λ v. invalid (rw f)))
       (λ f. cond_cases P (eqb x.number EXIT) _ _
       (λ e. cond_cases P (valid start) _ _
-      (λ v. cond_cases P (usesNone x.a x.b x.c (length x.attribute)) _ _ (λ u. exits f e) (λ u. operands (rw (f, e))))
+      (λ v. cond_cases P (uses_none x.a x.b x.c (length x.attribute)) _ _ (λ u. exits f e) (λ u. operands (rw (f, e))))
       (λ v. invalid (rw (f, e))))
       (λ e. calls f e))
 
 -- a refused step was no call in a slot in use: it names no slot, or one that is not in use, or it is a fork or an exit
 abbrev pub NoCall : Threads → SlotStep → Type 0
-NoCall table s = (SLOTS ≤ s.slot) ⊎ ((inUse table s.slot ≡ false) ⊎ (eqb s.step.number FORK || eqb s.step.number EXIT ≡ true))
+NoCall table s = (SLOTS ≤ s.slot) ⊎ ((in_use table s.slot ≡ false) ⊎ (eqb s.step.number FORK || eqb s.step.number EXIT ≡ true))
 
 -- a code of at most two digits that is neither 0 nor 11
 pub record Other (n : ℕ) : Type 0 where
-  pub not-0 : eqb n 0 ≡ false
-  pub not-11 : eqb n 11 ≡ false
+  pub not_0 : eqb n 0 ≡ false
+  pub not_11 : eqb n 11 ≡ false
   pub small : n ≤ 99
 
 -- credentials stored where they stood leave the table
@@ -59,11 +59,11 @@ pub kept : (table : Threads) (slot : ℕ) → set table.credentials slot (held t
 kept table slot = set-get_or table.credentials slot empty
 
 -- so a call's refusal is a refusal
-pub refused-argument : (table : Threads) (slot : ℕ) → answered table slot InvalidArgument ≡ refused table 22
-refused-argument table slot = rw (kept table slot)
+pub refused_argument : (table : Threads) (slot : ℕ) → answered table slot InvalidArgument ≡ refused table 22
+refused_argument table slot = rw (kept table slot)
 
-pub refused-credentials : (table : Threads) (slot : ℕ) → answered table slot InvalidCredentials ≡ refused table 72
-refused-credentials table slot = rw (kept table slot)
+pub refused_credentials : (table : Threads) (slot : ℕ) → answered table slot InvalidCredentials ≡ refused table 72
+refused_credentials table slot = rw (kept table slot)
 
 -- what the named slot's credentials answer to the step as a call
 abbrev pub asked : Threads → SlotStep → Answer
@@ -71,23 +71,23 @@ asked table s = answer (held table s.slot) s.step.number s.step.a s.step.b s.ste
 
 -- a step: it is refused and leaves the table, or it is a fork, an exit or a call in a slot that is in use
 module _ (table : Threads) (s : SlotStep) (P : SlotResult → Type 0) where
-  pub step-cases :
+  pub step_cases :
       ((n : ℕ) → Other n → NoCall table s → P (refused table n))
-      → (s.slot < SLOTS → inUse table s.slot ≡ true → eqb s.step.number FORK ≡ true → valid (held table s.slot) ≡ true
-      → P (forked table (held table s.slot) (lowestFree table.used)))
-      → (s.slot < SLOTS → inUse table s.slot ≡ true → eqb s.step.number FORK ≡ false → eqb s.step.number EXIT ≡ true
+      → (s.slot < SLOTS → in_use table s.slot ≡ true → eqb s.step.number FORK ≡ true → valid (held table s.slot) ≡ true
+      → P (forked table (held table s.slot) (lowest_free table.used)))
+      → (s.slot < SLOTS → in_use table s.slot ≡ true → eqb s.step.number FORK ≡ false → eqb s.step.number EXIT ≡ true
       → P (exited table s.slot))
-      → (s.slot < SLOTS → inUse table s.slot ≡ true → eqb s.step.number FORK ≡ false → eqb s.step.number EXIT ≡ false
+      → (s.slot < SLOTS → in_use table s.slot ≡ true → eqb s.step.number FORK ≡ false → eqb s.step.number EXIT ≡ false
       → P (answered table s.slot (asked table s)))
-      → P (stepIn table s)
-  unfolding stepIn
-  step-cases refuses forks exits calls =
+      → P (step_in table s)
+  unfolding step_in
+  step_cases refuses forks exits calls =
       cond_cases P (ltb s.slot SLOTS) _ _
-      (λ w. cond_cases P (inUse table s.slot) _ _
+      (λ w. cond_cases P (in_use table s.slot) _ _
       (λ u. let within = ltb-true s.slot SLOTS w in
-      decided-cases (held table s.slot) s.step (λ (d : Decision). P (carriedOut table s.slot d))
-      (λ o. subst P (sym (refused-argument table s.slot)) (refuses 22 (record { not-0 = refl; not-11 = refl; small = omega arith }) (inr (inr o))))
-      (λ o. subst P (sym (refused-credentials table s.slot)) (refuses 72 (record { not-0 = refl; not-11 = refl; small = omega arith }) (inr (inr o))))
+      decided_cases (held table s.slot) s.step (λ (d : Decision). P (carried_out table s.slot d))
+      (λ o. subst P (sym (refused_argument table s.slot)) (refuses 22 (record { not_0 = refl; not_11 = refl; small = omega arith }) (inr (inr o))))
+      (λ o. subst P (sym (refused_credentials table s.slot)) (refuses 72 (record { not_0 = refl; not_11 = refl; small = omega arith }) (inr (inr o))))
       (forks within u) (exits within u) (calls within u))
-      (λ u. refuses 3 (record { not-0 = refl; not-11 = refl; small = omega arith }) (inr (inl u))))
-      (λ w. refuses 22 (record { not-0 = refl; not-11 = refl; small = omega arith }) (inl (ltb-false s.slot SLOTS w)))
+      (λ u. refuses 3 (record { not_0 = refl; not_11 = refl; small = omega arith }) (inr (inl u))))
+      (λ w. refuses 22 (record { not_0 = refl; not_11 = refl; small = omega arith }) (inl (ltb-false s.slot SLOTS w)))

@@ -17,12 +17,12 @@ or_right_false true b h = absurd (true≢false h)
 or_right_false false b h = h
 
 -- 30 is not 31
-pub fork-no-exit : (n : ℕ) → eqb n EXIT ≡ true → eqb n FORK ≡ false
-fork-no-exit n h = ap (λ (m : ℕ). eqb m FORK) (eqb-true n EXIT h)
+pub fork_no_exit : (n : ℕ) → eqb n EXIT ≡ true → eqb n FORK ≡ false
+fork_no_exit n h = ap (λ (m : ℕ). eqb m FORK) (eqb-true n EXIT h)
 
 -- a number is not another one
-pub not-other : (n m : ℕ) → n ≡ m → eqb n m ≡ false → ⊥
-not-other n m e h = true≢false (sym (eq-eqb n m e) ∙ h)
+pub not_other : (n m : ℕ) → n ≡ m → eqb n m ≡ false → ⊥
+not_other n m e h = true≢false (sym (eq-eqb n m e) ∙ h)
 
 -- two numbers are equal or not
 pub equal_or_not : (a b : ℕ) → (a ≡ b) ⊎ (eqb a b ≡ false)
@@ -33,4 +33,4 @@ equal_or_not a b = by (eqb a b) refl
     by false h = inr h
 
 pub different : (a b : ℕ) → eqb a b ≡ false → a ≢ b
-different a b h e = not-other a b e h
+different a b h e = not_other a b e h

@@ -20,67 +20,67 @@ use Rattle.threads.specs.declared.Decision.{Decision}
 use Rattle.threads.specs.declared.Decision.TheVariants.{Answered, Forks, Exits}
 use Rattle.threads.specs.declared.SlotResult.{SlotResult}
 use Rattle.threads.specs.declared.Threads.{Threads}
-use Rattle.threads.specs.Table.{SLOTS, empty, held, inUse, lowestFree}
-use Rattle.threads.specs.Step.{SlotStep, FORK, EXIT, unlessRefused, decided, refused, forked, carriedOut, stepIn}
+use Rattle.threads.specs.Table.{SLOTS, empty, held, in_use, lowest_free}
+use Rattle.threads.specs.Step.{SlotStep, FORK, EXIT, unless_refused, decided, refused, forked, carried_out, step_in}
 use Rattle.threads.specs.Slots.{Sized, Fork, Exit, Calls, bare, Named, Ready, Refused, Full, Called, Forked, Exited}
-use Rattle.threads.proofs.Free.{lowest-free, lowest-below}
-use Rattle.threads.proofs.StepCases.{refused-argument, refused-credentials, asked, step-cases}
-use Rattle.threads.proofs.Tests.{or_left_false, or_right_false, fork-no-exit, not-other}
+use Rattle.threads.proofs.Free.{lowest_free_lem, lowest_below}
+use Rattle.threads.proofs.StepCases.{refused_argument, refused_credentials, asked, step_cases}
+use Rattle.threads.proofs.Tests.{or_left_false, or_right_false, fork_no_exit, not_other}
 
 -- ---- which answer comes
 
 -- a refusal, by what the step is
-is-refused : (table : Threads) (n : ℕ) (r : SlotResult) → r ≡ refused table n → Refused table n r
-is-refused table n r e = rw e (record { code = refl; value = refl; cause = refl; table_stays = refl })
+is_refused : (table : Threads) (n : ℕ) (r : SlotResult) → r ≡ refused table n → Refused table n r
+is_refused table n r e = rw e (record { code = refl; value = refl; cause = refl; table_stays = refl })
 
 module _ (table : Threads) (s : SlotStep) where
-  pub no_slot : SLOTS ≤ s.slot → Refused table 22 (stepIn table s)
-  unfolding stepIn
-  no_slot h = is-refused table 22 (stepIn table s) (rw (le-ltb s.slot SLOTS h))
+  pub no_slot : SLOTS ≤ s.slot → Refused table 22 (step_in table s)
+  unfolding step_in
+  no_slot h = is_refused table 22 (step_in table s) (rw (le-ltb s.slot SLOTS h))
 
-  pub not-in-use : s.slot < SLOTS → inUse table s.slot ≡ false → Refused table 3 (stepIn table s)
-  unfolding stepIn
-  not-in-use h u = is-refused table 3 (stepIn table s) (rw (lt-ltb s.slot SLOTS h, u))
+  pub not_in_use : s.slot < SLOTS → in_use table s.slot ≡ false → Refused table 3 (step_in table s)
+  unfolding step_in
+  not_in_use h u = is_refused table 3 (step_in table s) (rw (lt-ltb s.slot SLOTS h, u))
 
   -- in a slot that is in use, what its credentials decide is carried out
-  carried : Named table s → stepIn table s ≡ carriedOut table s.slot (decided (held table s.slot) s.step)
-  unfolding stepIn
+  carried : Named table s → step_in table s ≡ carried_out table s.slot (decided (held table s.slot) s.step)
+  unfolding step_in
   carried n = rw (lt-ltb s.slot SLOTS n.within, n.used)
 
-  carried-by : Named table s → (d : Decision) → decided (held table s.slot) s.step ≡ d → stepIn table s ≡ carriedOut table s.slot d
-  carried-by n d e = carried n ∙ ap (carriedOut table s.slot) e
+  carried_by : Named table s → (d : Decision) → decided (held table s.slot) s.step ≡ d → step_in table s ≡ carried_out table s.slot d
+  carried_by n d e = carried n ∙ ap (carried_out table s.slot) e
 
-invalid-decides : (start : Credentials) (x : Step) → valid start ≡ false → decided start x ≡ Answered InvalidCredentials
-unfolding decided unlessRefused answer
-invalid-decides start x v =
+invalid_decides : (start : Credentials) (x : Step) → valid start ≡ false → decided start x ≡ Answered InvalidCredentials
+unfolding decided unless_refused answer
+invalid_decides start x v =
     cond_cases (λ (d : Decision). d ≡ Answered InvalidCredentials) (eqb x.number FORK) _ _ (λ f. rw v)
     (λ f. cond_cases (λ (d : Decision). d ≡ Answered InvalidCredentials) (eqb x.number EXIT) _ _ (λ e. rw v) (λ e. rw v))
 
-pub invalid : (table : Threads) (s : SlotStep) → Named table s → valid (held table s.slot) ≡ false → Refused table 72 (stepIn table s)
+pub invalid : (table : Threads) (s : SlotStep) → Named table s → valid (held table s.slot) ≡ false → Refused table 72 (step_in table s)
 invalid table s n v =
-    is-refused table 72 (stepIn table s)
-    (carried-by table s n _ (invalid-decides (held table s.slot) s.step v) ∙ refused-credentials table s.slot)
+    is_refused table 72 (step_in table s)
+    (carried_by table s n _ (invalid_decides (held table s.slot) s.step v) ∙ refused_credentials table s.slot)
 
 module _ (start : Credentials) (s : SlotStep) where
-  calls-decides : Calls s → decided start s.step ≡ Answered (answer start s.step.number s.step.a s.step.b s.step.c s.step.attribute)
+  calls_decides : Calls s → decided start s.step ≡ Answered (answer start s.step.number s.step.a s.step.b s.step.c s.step.attribute)
   unfolding decided
-  calls-decides c =
+  calls_decides c =
       rw (or_left_false (eqb s.step.number FORK) (eqb s.step.number EXIT) c, or_right_false (eqb s.step.number FORK) (eqb s.step.number EXIT) c)
 
   -- a fork or an exit of valid credentials, by whether an operand or an attribute is given
-  fork-decides : valid start ≡ true → Fork s → (b : Bool) → bare s ≡ b → decided start s.step ≡ cond b Forks (Answered InvalidArgument)
-  unfolding decided unlessRefused
-  fork-decides v f b e = rw (f, v, e)
+  fork_decides : valid start ≡ true → Fork s → (b : Bool) → bare s ≡ b → decided start s.step ≡ cond b Forks (Answered InvalidArgument)
+  unfolding decided unless_refused
+  fork_decides v f b e = rw (f, v, e)
 
-  exit-decides : valid start ≡ true → Exit s → (b : Bool) → bare s ≡ b → decided start s.step ≡ cond b Exits (Answered InvalidArgument)
-  unfolding decided unlessRefused
-  exit-decides v x b e = rw (fork-no-exit s.step.number x, x, v, e)
+  exit_decides : valid start ≡ true → Exit s → (b : Bool) → bare s ≡ b → decided start s.step ≡ cond b Exits (Answered InvalidArgument)
+  unfolding decided unless_refused
+  exit_decides v x b e = rw (fork_no_exit s.step.number x, x, v, e)
 
 module _ (table : Threads) (s : SlotStep) where
-  pub call : Sized table → Named table s → Calls s → Called table s (stepIn table s)
+  pub call : Sized table → Named table s → Calls s → Called table s (step_in table s)
   unfolding result
   call z n c =
-      rw (carried-by table s n _ (calls-decides (held table s.slot) s c)) (record {
+      rw (carried_by table s n _ (calls_decides (held table s.slot) s c)) (record {
         code = refl;
         value = refl;
         cause = refl;
@@ -88,19 +88,19 @@ module _ (table : Threads) (s : SlotStep) where
         used = n.used;
       })
 
-  pub fork-operands : Ready table s → Fork s → bare s ≡ false → Refused table 22 (stepIn table s)
-  fork-operands r f b =
-      is-refused table 22 (stepIn table s)
-      (carried-by table s r.named _ (fork-decides (held table s.slot) s r.held-valid f false b) ∙ refused-argument table s.slot)
+  pub fork_operands : Ready table s → Fork s → bare s ≡ false → Refused table 22 (step_in table s)
+  fork_operands r f b =
+      is_refused table 22 (step_in table s)
+      (carried_by table s r.named _ (fork_decides (held table s.slot) s r.held_valid f false b) ∙ refused_argument table s.slot)
 
-  pub exit-operands : Ready table s → Exit s → bare s ≡ false → Refused table 22 (stepIn table s)
-  exit-operands r x b =
-      is-refused table 22 (stepIn table s)
-      (carried-by table s r.named _ (exit-decides (held table s.slot) s r.held-valid x false b) ∙ refused-argument table s.slot)
+  pub exit_operands : Ready table s → Exit s → bare s ≡ false → Refused table 22 (step_in table s)
+  exit_operands r x b =
+      is_refused table 22 (step_in table s)
+      (carried_by table s r.named _ (exit_decides (held table s.slot) s r.held_valid x false b) ∙ refused_argument table s.slot)
 
-  pub exit : Sized table → Ready table s → Exit s → bare s ≡ true → Exited table s (stepIn table s)
+  pub exit : Sized table → Ready table s → Exit s → bare s ≡ true → Exited table s (step_in table s)
   exit z r x b =
-      rw (carried-by table s r.named _ (exit-decides (held table s.slot) s r.held-valid x true b)) (record {
+      rw (carried_by table s r.named _ (exit_decides (held table s.slot) s r.held_valid x true b)) (record {
         code = refl;
         value = refl;
         cause = refl;
@@ -111,64 +111,64 @@ module _ (table : Threads) (s : SlotStep) where
 
 module _ (table : Threads) (caller : Credentials) where
   -- the lowest free slot is within the table where any slot is free
-  room : (i : ℕ) → i < SLOTS → inUse table i ≡ false → lowestFree table.used < SLOTS
-  room i w u = below_or (ltb (lowestFree table.used) SLOTS) refl
+  room : (i : ℕ) → i < SLOTS → in_use table i ≡ false → lowest_free table.used < SLOTS
+  room i w u = below_or (ltb (lowest_free table.used) SLOTS) refl
     where
-      below_or : (t : Bool) → ltb (lowestFree table.used) SLOTS ≡ t → lowestFree table.used < SLOTS
-      below_or true h = ltb-true (lowestFree table.used) SLOTS h
+      below_or : (t : Bool) → ltb (lowest_free table.used) SLOTS ≡ t → lowest_free table.used < SLOTS
+      below_or true h = ltb-true (lowest_free table.used) SLOTS h
       below_or false h =
-          absurd (true≢false (sym (lowest-below table.used i (lt_of_lt_of_le w (ltb-false (lowestFree table.used) SLOTS h))) ∙ u))
+          absurd (true≢false (sym (lowest_below table.used i (lt_of_lt_of_le w (ltb-false (lowest_free table.used) SLOTS h))) ∙ u))
 
   -- and is not where none is
-  no_room : Full table → SLOTS ≤ lowestFree table.used
-  no_room full = above-or (ltb (lowestFree table.used) SLOTS) refl
+  no_room : Full table → SLOTS ≤ lowest_free table.used
+  no_room full = above_or (ltb (lowest_free table.used) SLOTS) refl
     where
-      above-or : (t : Bool) → ltb (lowestFree table.used) SLOTS ≡ t → SLOTS ≤ lowestFree table.used
-      above-or true h = absurd (true≢false (sym (full (lowestFree table.used) (ltb-true (lowestFree table.used) SLOTS h)) ∙ lowest-free table.used))
-      above-or false h = ltb-false (lowestFree table.used) SLOTS h
+      above_or : (t : Bool) → ltb (lowest_free table.used) SLOTS ≡ t → SLOTS ≤ lowest_free table.used
+      above_or true h = absurd (true≢false (sym (full (lowest_free table.used) (ltb-true (lowest_free table.used) SLOTS h)) ∙ lowest_free_lem table.used))
+      above_or false h = ltb-false (lowest_free table.used) SLOTS h
 
 module _ (table : Threads) (s : SlotStep) where
-  pub fork : Sized table → Ready table s → Fork s → bare s ≡ true → (i : ℕ) → i < SLOTS → inUse table i ≡ false → Forked table s (stepIn table s)
+  pub fork : Sized table → Ready table s → Fork s → bare s ≡ true → (i : ℕ) → i < SLOTS → in_use table i ≡ false → Forked table s (step_in table s)
   unfolding forked
   fork z r f b i w u =
       let caller = held table s.slot in
-      let free = lowestFree table.used in
+      let free = lowest_free table.used in
       let below = room table caller i w u in
-      let is = carried-by table s r.named _ (fork-decides caller s r.held-valid f true b) in
+      let is = carried_by table s r.named _ (fork_decides caller s r.held_valid f true b) in
       rw (is, lt-ltb free SLOTS below) (record {
         code = refl;
         cause = refl;
-        takes = record { within = below; free = lowest-free table.used; below = lowest-below table.used };
+        takes = record { within = below; free = lowest_free_lem table.used; below = lowest_below table.used };
         copy = get_or-set_same table.credentials free caller empty (subst (λ (k : ℕ). free < k) (sym z.credentials) below);
         used = get_or-set_same table.used free true false (subst (λ (k : ℕ). free < k) (sym z.used) below);
         others = λ j ne. record { credentials = get_or-set_other table.credentials free j caller empty ne; used = get_or-set_other table.used free j true false ne };
       })
 
-  pub fork-full : Ready table s → Fork s → bare s ≡ true → Full table → Refused table 11 (stepIn table s)
+  pub fork_full : Ready table s → Fork s → bare s ≡ true → Full table → Refused table 11 (step_in table s)
   unfolding forked
-  fork-full r f b full =
-      is-refused table 11 (stepIn table s)
-      (carried-by table s r.named _ (fork-decides (held table s.slot) s r.held-valid f true b)
-      ∙ rw (le-ltb (lowestFree table.used) SLOTS (no_room table (held table s.slot) full)))
+  fork_full r f b full =
+      is_refused table 11 (step_in table s)
+      (carried_by table s r.named _ (fork_decides (held table s.slot) s r.held_valid f true b)
+      ∙ rw (le-ltb (lowest_free table.used) SLOTS (no_room table (held table s.slot) full)))
 
 -- a call's code is no 11
-answered-not-11 : (r : Answer) → code r ≡ 11 → ⊥
-answered-not-11 (Done v c) h = omega (arith, h)
-answered-not-11 (NotPermitted why) h = omega (arith, h)
-answered-not-11 InvalidArgument h = omega (arith, h)
-answered-not-11 UnreadableAttribute h = omega (arith, h)
-answered-not-11 InvalidCredentials h = omega (arith, h)
+answered_not_11 : (r : Answer) → code r ≡ 11 → ⊥
+answered_not_11 (Done v c) h = omega (arith, h)
+answered_not_11 (NotPermitted why) h = omega (arith, h)
+answered_not_11 InvalidArgument h = omega (arith, h)
+answered_not_11 UnreadableAttribute h = omega (arith, h)
+answered_not_11 InvalidCredentials h = omega (arith, h)
 
-forked-11 : (table : Threads) (caller : Credentials) (free : ℕ) → (forked table caller free).code ≡ 11 → SLOTS ≤ free
+forked_11 : (table : Threads) (caller : Credentials) (free : ℕ) → (forked table caller free).code ≡ 11 → SLOTS ≤ free
 unfolding forked
-forked-11 table caller free =
+forked_11 table caller free =
     cond_cases (λ (r : SlotResult). r.code ≡ 11 → SLOTS ≤ free) (ltb free SLOTS) _ _ (λ h k. absurd (omega (arith, k))) (λ h k. ltb-false free SLOTS h)
 
-pub eleven : (table : Threads) (s : SlotStep) → (stepIn table s).code ≡ 11 → Fork s × Full table
+pub eleven : (table : Threads) (s : SlotStep) → (step_in table s).code ≡ 11 → Fork s × Full table
 eleven table s h =
-    step-cases table s (λ (r : SlotResult). r.code ≡ 11 → Fork s × Full table)
-    (λ n o w k. absurd (not-other n 11 k o.not-11))
-    (λ w u f v k. (f, λ i l. lowest-below table.used i (lt_of_lt_of_le l (forked-11 table (held table s.slot) (lowestFree table.used) k))))
+    step_cases table s (λ (r : SlotResult). r.code ≡ 11 → Fork s × Full table)
+    (λ n o w k. absurd (not_other n 11 k o.not_11))
+    (λ w u f v k. (f, λ i l. lowest_below table.used i (lt_of_lt_of_le l (forked_11 table (held table s.slot) (lowest_free table.used) k))))
     (λ w u f e k. absurd (omega (arith, k)))
-    (λ w u f e k. absurd (answered-not-11 (asked table s) k))
+    (λ w u f e k. absurd (answered_not_11 (asked table s) k))
     h

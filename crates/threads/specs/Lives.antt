@@ -6,8 +6,8 @@ use Rattle.rules.specs.Run.{Step, Result, run, left}
 use Rattle.rules.specs.Demand3.{Demand3}
 use Rattle.threads.specs.declared.SlotResult.{SlotResult}
 use Rattle.threads.specs.declared.Threads.{Threads}
-use Rattle.threads.specs.Table.{held, inUse, fresh}
-use Rattle.threads.specs.Step.{SlotStep, FORK, EXIT, stepIn, ends}
+use Rattle.threads.specs.Table.{held, in_use, fresh}
+use Rattle.threads.specs.Step.{SlotStep, FORK, EXIT, step_in, ends}
 
 -- a slot's life since the latest fork into it: the parent's credentials at that moment, the calls that named the slot since then, and what came back for
 -- each
@@ -25,30 +25,30 @@ abbrev pub lengthened : Life → Step → Result → Life
 lengthened life x r = record { start = life.start; calls = life.calls ++ (x ∷ []); results = life.results ++ (r ∷ []) }
 
 -- a step was a fork that took the slot
-abbrev pub forkInto : ℕ → SlotStep → SlotResult → Bool
-forkInto slot s r = eqb s.step.number FORK && (eqb r.code 0 && eqb r.value slot)
+abbrev pub fork_into : ℕ → SlotStep → SlotResult → Bool
+fork_into slot s r = eqb s.step.number FORK && (eqb r.code 0 && eqb r.value slot)
 
 -- a step is a call that names the slot: any number but those of fork and exit
 abbrev pub call_in : ℕ → SlotStep → Bool
 call_in slot s = eqb s.slot slot && not (eqb s.step.number FORK || eqb s.step.number EXIT)
 
 -- what came back from a step, with what the slot holds after it
-abbrev pub cameBack : ℕ → SlotResult → Result
-cameBack slot r = record { code = r.code; value = r.value; cause = r.cause; after = held r.table slot }
+abbrev pub came_back : ℕ → SlotResult → Result
+came_back slot r = record { code = r.code; value = r.value; cause = r.cause; after = held r.table slot }
 
 -- a slot's life after a step that was made in a table and came to a result: it begins anew, is longer by a call, or is as it was
 abbrev pub lived : Threads → ℕ → Life → SlotStep → SlotResult → Life
 lived table slot life s r =
-    cond (forkInto slot s r) (begins (held table s.slot)) (cond (call_in slot s) (lengthened life s.step (cameBack slot r)) life)
+    cond (fork_into slot s r) (begins (held table s.slot)) (cond (call_in slot s) (lengthened life s.step (came_back slot r)) life)
 
 -- and after a list of steps
-unfoldable pub lifeOf : Threads → ℕ → Life → List SlotStep → Life
-lifeOf table slot life [] = life
-lifeOf table slot life (s ∷ ss) = lifeOf (stepIn table s).table slot (lived table slot life s (stepIn table s)) ss
+unfoldable pub life_of : Threads → ℕ → Life → List SlotStep → Life
+life_of table slot life [] = life
+life_of table slot life (s ∷ ss) = life_of (step_in table s).table slot (lived table slot life s (step_in table s)) ss
 
 -- from the table at the start: slot 0, until forked into, begins with the sheet; any other slot is free, and begins when it is forked into
-abbrev pub lifeFrom : Credentials → ℕ → List SlotStep → Life
-lifeFrom sheet slot steps = lifeOf (fresh sheet) slot (begins (held (fresh sheet) slot)) steps
+abbrev pub life_from : Credentials → ℕ → List SlotStep → Life
+life_from sheet slot steps = life_of (fresh sheet) slot (begins (held (fresh sheet) slot)) steps
 
 -- what the demand says of one slot
 pub record PerSlot (end : Threads) (slot : ℕ) (life : Life) : Type 0 where
@@ -62,4 +62,4 @@ pub record PerSlot (end : Threads) (slot : ℕ) (life : Life) : Type 0 where
 -- the demand: from the table at the start with any valid credentials, by any list of steps, for each slot that is in use after it
 abbrev pub DemandedPerSlot : Type 0
 DemandedPerSlot = (sheet : Credentials) → valid sheet ≡ true → (steps : List SlotStep) (slot : ℕ)
-    → inUse (ends (fresh sheet) steps) slot ≡ true → PerSlot (ends (fresh sheet) steps) slot (lifeFrom sheet slot steps)
+    → in_use (ends (fresh sheet) steps) slot ≡ true → PerSlot (ends (fresh sheet) steps) slot (life_from sheet slot steps)

@@ -24,22 +24,22 @@ abbrev pub held : Threads → ℕ → Credentials
 held table slot = get_or table.credentials slot empty
 
 -- a slot is in use; none above 95 is
-abbrev pub inUse : Threads → ℕ → Bool
-inUse table slot = get_or table.used slot false
+abbrev pub in_use : Threads → ℕ → Bool
+in_use table slot = get_or table.used slot false
 
 -- a slot's credentials changed
-abbrev pub withCredentials : Threads → ℕ → Credentials → Threads
-withCredentials table slot c = record { credentials = set table.credentials slot c; used = table.used }
+abbrev pub with_credentials : Threads → ℕ → Credentials → Threads
+with_credentials table slot c = record { credentials = set table.credentials slot c; used = table.used }
 
 -- a slot's use mark changed
-abbrev pub withMark : Threads → ℕ → Bool → Threads
-withMark table slot mark = record { credentials = table.credentials; used = set table.used slot mark }
+abbrev pub with_mark : Threads → ℕ → Bool → Threads
+with_mark table slot mark = record { credentials = table.credentials; used = set table.used slot mark }
 
 -- the lowest free slot by the use marks; where none is free, how many there are
-unfoldable pub lowestFree : List Bool → ℕ
-lowestFree [] = 0
-lowestFree (mark ∷ marks) = cond mark (suc (lowestFree marks)) 0
+unfoldable pub lowest_free : List Bool → ℕ
+lowest_free [] = 0
+lowest_free (mark ∷ marks) = cond mark (suc (lowest_free marks)) 0
 
 -- the table at the start: the empty record 96 times, none in use; then slot 0 in use, with the sheet's credentials
 abbrev pub fresh : Credentials → Threads
-fresh sheet = withMark (withCredentials (record { credentials = replicate SLOTS empty; used = replicate SLOTS false }) 0 sheet) 0 true
+fresh sheet = with_mark (with_credentials (record { credentials = replicate SLOTS empty; used = replicate SLOTS false }) 0 sheet) 0 true

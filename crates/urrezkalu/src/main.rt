@@ -2,7 +2,7 @@
 //
 // A plan that is refused gets the two lines `code=` and `line=` instead.
 ghost use Rattle.std.specs.Prelude.{◌≡◌, ◌+◌, length};
-ghost use Rattle.format.specs.Longest.{longestPlan, longestReport};
+ghost use Rattle.format.specs.Longest.{longest_plan, longest_report};
 
 use format::Outcome;
 use libc::{STDIN_FILENO, STDOUT_FILENO};
@@ -26,7 +26,7 @@ fn answer(ran: Outcome, report: &[u8]) {
 // Reads the plan and answers it. The first buffer has one byte more than the longest plan: a longer text is cut there, and its fault is before the
 // cut. The second is as long as the longest report.
 fn run(text: &mut [u8], report: &mut [u8])
-    requires { (length text.old ≡ longestPlan + 1) × (length report.old ≡ longestReport) }
+    requires { (length text.old ≡ longest_plan + 1) × (length report.old ≡ longest_report) }
 {
     let size = io::read_full(STDIN_FILENO, text);
     let ran = plan::run_plan(&text[0..size], report);

@@ -2,7 +2,7 @@
 //
 // A slot plan that is refused gets the two lines `code=` and `line=` instead.
 ghost use Rattle.std.specs.Prelude.{◌≡◌, ◌+◌, length};
-ghost use Rattle.slot_format.specs.Longest.{longestSlotPlan, longestSlotReport};
+ghost use Rattle.slot_format.specs.Longest.{longest_slot_plan, longest_slot_report};
 
 use format::Outcome;
 use libc::{STDIN_FILENO, STDOUT_FILENO};
@@ -26,7 +26,7 @@ fn answer(ran: Outcome, report: &[u8]) {
 // Reads the slot plan and answers it. The first buffer has one byte more than the longest slot plan: a longer text is cut there, and its fault is before
 // the cut. The second is as long as the longest report.
 fn run(text: &mut [u8], report: &mut [u8])
-    requires { (length text.old ≡ longestSlotPlan + 1) × (length report.old ≡ longestSlotReport) }
+    requires { (length text.old ≡ longest_slot_plan + 1) × (length report.old ≡ longest_slot_report) }
 {
     let size = io::read_full(STDIN_FILENO, text);
     let ran = plan::run_slot_plan(&text[0..size], report);

@@ -1,7 +1,7 @@
 -- `capi::beside_sheet` meets its contract. Assumes nothing.
 use mathlib.Core.Path.{refl, sym, ap, ◌∙◌}
 use borrow.Author.Rules.{rules}
-use Rattle.capi.specs.Interface.{listNumber}
+use Rattle.capi.specs.Interface.{list_number}
 use Rattle.capi.proofs.beside_sheet.Statement.{statement}
 use Rattle.capi.proofs.beside_sheet.Tie as tie
 
@@ -46,7 +46,7 @@ returns-3 : tie.Need-returns-3
 returns-3 c =
     let e = sym c.before.before.before.before.before.before.before.before.read-sheet.ensures ∙ c.before.before.before.before.before.before.predicted.given.1 in
     let l = c.before.before.before.lay-beside.ensures in
-    rw e (c.joined3.ensures ∙ ap listNumber l.0, l.1)
+    rw e (c.joined3.ensures ∙ ap list_number l.0, l.1)
 
 pub beside-sheet-spec : {M : Type 1} → statement M
 beside-sheet-spec =

@@ -2,7 +2,7 @@
 use mathlib.Core.Path.{◌∙◌}
 use native.Mathlib.Omega.{arith}
 use lib.ListN.{length-set}
-use Rattle.capi.specs.Interface.{namedValues}
+use Rattle.capi.specs.Interface.{named_values}
 use Rattle.capi.proofs.Answers.{given, no_room, stored}
 use borrow.Author.Rules.{rules}
 use Rattle.capi.proofs.give_names.Statement.{statement}
@@ -14,7 +14,7 @@ joined-requires c κs = search rules
 returns : tie.Need-returns
 returns c =
     let a = c.before.before.before.args in
-    let n = no_room (namedValues a.held) a.values.now c.before.if1.true in
+    let n = no_room (named_values a.held) a.values.now c.before.if1.true in
     (c.joined.ensures ∙ n.0, n.1)
 
 slice-write-values : tie.Need-slice-write-values
@@ -38,7 +38,7 @@ same_length c = search rules
 returns-2 : tie.Need-returns-2
 returns-2 c =
     let a = c.before.before.before.args in
-    let vs = namedValues a.held in
+    let vs = named_values a.held in
     let g = given vs a.values.now c.before.if1.false in
     (c.joined2.ensures ∙ g.0, stored vs a.values.now c.before.if1.false ∙ g.1)
 

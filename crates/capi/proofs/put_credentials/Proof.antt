@@ -1,8 +1,8 @@
 -- `capi::put_credentials` meets its contract. Assumes nothing.
 use native.Mathlib.Omega.{arith}
 use lib.ListN.{length-set}
-use Rattle.rules.proofs.Flags.{cast-is-number}
-use Rattle.format.specs.Sheet.{sheetValues}
+use Rattle.rules.proofs.Flags.{cast_is_number}
+use Rattle.format.specs.Sheet.{sheet_values}
 use Rattle.capi.proofs.Answers.{stored}
 use borrow.Author.Rules.{rules}
 use Rattle.capi.proofs.put_credentials.Statement.{statement}
@@ -63,7 +63,7 @@ returns : tie.Need-returns
 returns c =
     let s = c.before in
     let a = s.args in
-    rw (cast-is-number a.held.nnp) (stored (sheetValues a.held) a.values.now s.requires)
+    rw (cast_is_number a.held.nnp) (stored (sheet_values a.held) a.values.now s.requires)
 
 pub put-credentials-spec : {M : Type 1} → statement M
 put-credentials-spec =

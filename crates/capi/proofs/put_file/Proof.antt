@@ -1,8 +1,8 @@
 -- `capi::put_file` meets its contract. Assumes nothing.
 use native.Mathlib.Omega.{arith}
 use lib.ListN.{length-set}
-use Rattle.rules.proofs.Flags.{cast-is-number}
-use Rattle.capi.specs.Interface.{fileValues}
+use Rattle.rules.proofs.Flags.{cast_is_number}
+use Rattle.capi.specs.Interface.{file_values}
 use Rattle.capi.proofs.Answers.{stored}
 use borrow.Author.Rules.{rules}
 use Rattle.capi.proofs.put_file.Statement.{statement}
@@ -33,7 +33,7 @@ returns : tie.Need-returns
 returns c =
     let s = c.before.before in
     let a = s.args in
-    rw (cast-is-number a.file.attached, cast-is-number a.file.effective) (stored (fileValues a.file) a.values.now s.requires)
+    rw (cast_is_number a.file.attached, cast_is_number a.file.effective) (stored (file_values a.file) a.values.now s.requires)
 
 pub put-file-spec : {M : Type 1} → statement M
 put-file-spec =

@@ -1,6 +1,6 @@
 -- `capi::urrezkalu_read_attribute` meets its contract. Assumes nothing.
 use mathlib.Core.Path.{refl, sym, ◌∙◌}
-use Rattle.capi.specs.Interface.{fileValues}
+use Rattle.capi.specs.Interface.{file_values}
 use Rattle.capi.proofs.Answers.{given, no_room}
 use borrow.Author.Rules.{rules}
 use Rattle.capi.proofs.urrezkalu_read_attribute.Statement.{statement}
@@ -30,7 +30,7 @@ joined-requires-2 c κs = search rules
 returns-2 : tie.Need-returns-2
 returns-2 c =
     let e = sym c.before.before.before.before.before.read.ensures ∙ c.before.before.before.answer.given.1 in
-    let n = no_room (fileValues _) _ c.before.if1.true in
+    let n = no_room (file_values _) _ c.before.if1.true in
     rw e (c.joined2.ensures ∙ n.0, n.1)
 
 put-file-requires : tie.Need-put-file-requires
@@ -48,7 +48,7 @@ same_length c = search rules
 returns-3 : tie.Need-returns-3
 returns-3 c =
     let e = sym c.before.before.before.before.before.before.before.before.before.read.ensures ∙ c.before.before.before.before.before.before.before.answer.given.1 in
-    let g = given (fileValues _) _ c.before.before.before.before.before.if1.false in
+    let g = given (file_values _) _ c.before.before.before.before.before.if1.false in
     rw e (c.joined3.ensures ∙ g.0, c.before.before.before.put-file.ensures ∙ g.1)
 
 pub urrezkalu-read-attribute-spec : {M : Type 1} → statement M

@@ -1,7 +1,7 @@
 -- `capi::urrezkalu_read_sheet` meets its contract. Assumes nothing.
 use mathlib.Core.Path.{sym, ◌∙◌}
-use Rattle.format.specs.Sheet.{sheetValues}
-use Rattle.capi.proofs.Answers.{given, no_room, sheet-refused}
+use Rattle.format.specs.Sheet.{sheet_values}
+use Rattle.capi.proofs.Answers.{given, no_room, sheet_refused}
 use borrow.Author.Rules.{rules}
 use Rattle.capi.proofs.urrezkalu_read_sheet.Statement.{statement}
 use Rattle.capi.proofs.urrezkalu_read_sheet.Tie as tie
@@ -24,7 +24,7 @@ joined-requires c κs = tt
 returns : tie.Need-returns
 returns c =
     let m = c.before.before.before in
-    let r = sheet-refused m.before.read-sheet.result m.before.before.before.before.args.values.now m.match.keys2 in
+    let r = sheet_refused m.before.read-sheet.result m.before.before.before.before.args.values.now m.match.keys2 in
     rw (← m.before.read-sheet.ensures) (c.joined.ensures ∙ rw (c.before.sheet-line.ensures, c.before.before.sheet-code.ensures) r.0, r.1)
 
 joined-requires-2 : tie.Need-joined-requires-2
@@ -33,7 +33,7 @@ joined-requires-2 c κs = search rules
 returns-2 : tie.Need-returns-2
 returns-2 c =
     let e = sym c.before.before.before.before.before.read-sheet.ensures ∙ c.before.before.before.answer.given.1 in
-    let n = no_room (sheetValues _) _ c.before.if1.true in
+    let n = no_room (sheet_values _) _ c.before.if1.true in
     rw e (c.joined2.ensures ∙ n.0, n.1)
 
 put-credentials-requires : tie.Need-put-credentials-requires
@@ -51,7 +51,7 @@ same_length c = search rules
 returns-3 : tie.Need-returns-3
 returns-3 c =
     let e = sym c.before.before.before.before.before.before.before.before.before.read-sheet.ensures ∙ c.before.before.before.before.before.before.before.answer.given.1 in
-    let g = given (sheetValues _) _ c.before.before.before.before.before.if1.false in
+    let g = given (sheet_values _) _ c.before.before.before.before.before.if1.false in
     rw e (c.joined3.ensures ∙ g.0, c.before.before.before.put-credentials.ensures ∙ g.1)
 
 pub urrezkalu-read-sheet-spec : {M : Type 1} → statement M

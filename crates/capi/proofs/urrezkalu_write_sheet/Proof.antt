@@ -1,6 +1,6 @@
 -- `capi::urrezkalu_write_sheet` meets its contract. Assumes nothing.
 use mathlib.Core.Path.{refl, sym, ◌∙◌}
-use Rattle.capi.specs.Interface.{valuesWritten, valuesBuffer}
+use Rattle.capi.specs.Interface.{values_written, values_buffer}
 use Rattle.capi.proofs.Answers.{fifteen}
 use borrow.Author.Rules.{rules}
 use Rattle.capi.proofs.urrezkalu_write_sheet.Statement.{statement}
@@ -22,7 +22,7 @@ same_length : tie.Need-same-length
 same_length c = search rules
 
 returns : tie.Need-returns
-unfolding valuesWritten valuesBuffer
+unfolding values_written values_buffer
 returns c =
     let w = c.before.before.before.write-sheet.ensures in
     let v = sym c.before.before.before.before.before.before.before.are-values.ensures ∙ c.before.before.before.before.before.before.if1.true in
@@ -32,7 +32,7 @@ joined-requires-2 : tie.Need-joined-requires-2
 joined-requires-2 c κs = search rules
 
 returns-2 : tie.Need-returns-2
-unfolding valuesWritten valuesBuffer
+unfolding values_written values_buffer
 returns-2 c = rw (sym c.before.before.are-values.ensures ∙ c.before.if1.false) (c.joined2.ensures, refl)
 
 pub urrezkalu-write-sheet-spec : {M : Type 1} → statement M

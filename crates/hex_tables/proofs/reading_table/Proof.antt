@@ -1,11 +1,11 @@
--- `hex_tables::reading_table` meets its contract: all 256 entries are computed from `hexDigit` and compared. Assumes nothing.
+-- `hex_tables::reading_table` meets its contract: all 256 entries are computed from `hex_digit` and compared. Assumes nothing.
 use mathlib.Core.Path.{refl}
-use Rattle.hex_tables.specs.Tables.{tabulated, readingTable}
+use Rattle.hex_tables.specs.Tables.{tabulated, reading_table}
 use Rattle.hex_tables.proofs.reading_table.Statement.{statement}
 use Rattle.hex_tables.proofs.reading_table.Tie as tie
 
 returns : tie.Need-returns
-unfolding tabulated readingTable
+unfolding tabulated reading_table
 returns c = refl
 
 pub reading-table-spec : {M : Type 1} → statement M

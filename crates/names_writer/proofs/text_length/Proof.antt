@@ -4,31 +4,31 @@ use Prim.Native.Nat.{◌-◌, ◌+◌, ◌≤◌}
 use native.Mathlib.Omega.{arith}
 use lib.ListN.{length, drop, drop_of_length-le}
 use borrow.Author.Rules.{rules}
-use Rattle.names.specs.Names.{capabilityNames}
-use Rattle.names.specs.Writing.{setsText}
+use Rattle.names.specs.Names.{capability_names}
+use Rattle.names.specs.Writing.{sets_text}
 use Rattle.names.specs.Inside.{flat, rows_from}
 use Rattle.names.proofs.Longest.{longest}
 use Rattle.names.proofs.Rows.{row_at}
-use Rattle.names_writer.specs.Inside.{rowsText}
-use Rattle.names_writer.proofs.Texts.{table-rows, rows-text, rows_end, length-next}
+use Rattle.names_writer.specs.Inside.{rows_text}
+use Rattle.names_writer.proofs.Texts.{table_rows, rows_text_lem, rows_end, length_next}
 use Rattle.names_writer.proofs.text_length.Statement.{statement}
 use Rattle.names_writer.proofs.text_length.Tie as tie
 
 abbrev invariant-loop : tie.invariant-loop
 invariant-loop held table p₀ row₀ size₀ p k size =
-    (size + length (rowsText size held (drop k (rows_from 0 capabilityNames))) ≡ length (setsText held)) × (drop p table ≡ flat (drop k (rows_from 0 capabilityNames))) × (k ≤ 41)
+    (size + length (rows_text size held (drop k (rows_from 0 capability_names))) ≡ length (sets_text held)) × (drop p table ≡ flat (drop k (rows_from 0 capability_names))) × (k ≤ 41)
 
 abbrev decreases-loop : tie.decreases-loop
 decreases-loop held table p₀ row₀ size₀ p k size = 41 - k
 
 loop-holds : tie.Need-loop-init invariant-loop decreases-loop
-loop-holds c = (let e = ap length (rows-text c.before.args.held) in omega (arith, e), c.before.requires, search rules)
+loop-holds c = (let e = ap length (rows_text_lem c.before.args.held) in omega (arith, e), c.before.requires, search rules)
 
 shared-slice-read-wide : tie.Need-shared-slice-read-wide invariant-loop decreases-loop
 shared-slice-read-wide c =
     let l = c.before.before in
     let a = l.before.before.args in
-    let r = row_at a.table.now (rows_from 0 capabilityNames) l.loop.row l.loop.p (omega (arith, table-rows)) l.loop.invariant.1 in
+    let r = row_at a.table.now (rows_from 0 capability_names) l.loop.row l.loop.p (omega (arith, table_rows)) l.loop.invariant.1 in
     omega (arith, r.room)
 
 wide-requires : tie.Need-wide-requires invariant-loop decreases-loop
@@ -38,14 +38,14 @@ add_wide : tie.Need-overflow-add-wide invariant-loop decreases-loop
 add_wide c =
     let l = c.before.before.before in
     let a = l.before.before.args in
-    let r = row_at a.table.now (rows_from 0 capabilityNames) l.loop.row l.loop.p (omega (arith, table-rows)) l.loop.invariant.1 in
+    let r = row_at a.table.now (rows_from 0 capability_names) l.loop.row l.loop.p (omega (arith, table_rows)) l.loop.invariant.1 in
     omega (arith, r.room)
 
 shared-slice-read-wide-2 : tie.Need-shared-slice-read-wide-2 invariant-loop decreases-loop
 shared-slice-read-wide-2 c =
     let l = c.before.before.before.before in
     let a = l.before.before.args in
-    let r = row_at a.table.now (rows_from 0 capabilityNames) l.loop.row l.loop.p (omega (arith, table-rows)) l.loop.invariant.1 in
+    let r = row_at a.table.now (rows_from 0 capability_names) l.loop.row l.loop.p (omega (arith, table_rows)) l.loop.invariant.1 in
     omega (arith, r.room)
 
 wide-requires-2 : tie.Need-wide-requires-2 invariant-loop decreases-loop
@@ -58,22 +58,22 @@ add-size : tie.Need-overflow-add-size invariant-loop decreases-loop
 add-size c =
     let l = c.before.before.before.before.before.before in
     let a = l.before.before.args in
-    let r = row_at a.table.now (rows_from 0 capabilityNames) l.loop.row l.loop.p (omega (arith, table-rows)) l.loop.invariant.1 in
+    let r = row_at a.table.now (rows_from 0 capability_names) l.loop.row l.loop.p (omega (arith, table_rows)) l.loop.invariant.1 in
     let q = c.before.before.before.wide.ensures.0 ∙ r.first in
-    omega (arith, length-next a.held l.loop.size l.loop.row l.loop.p c.before.before.before.wide.result c.before.wide2.result c.clause-length.result _ a.table.now (rows_from 0 capabilityNames) r q (c.before.wide2.ensures.0 ∙ r.second) c.clause-length.ensures l.loop.invariant.0, longest.texts a.held)
+    omega (arith, length_next a.held l.loop.size l.loop.row l.loop.p c.before.before.before.wide.result c.before.wide2.result c.clause-length.result _ a.table.now (rows_from 0 capability_names) r q (c.before.wide2.ensures.0 ∙ r.second) c.clause-length.ensures l.loop.invariant.0, longest.texts a.held)
 
 add-p : tie.Need-overflow-add-p invariant-loop decreases-loop
 add-p c =
     let l = c.before.before.before.before.before.before in
     let a = l.before.before.args in
-    let r = row_at a.table.now (rows_from 0 capabilityNames) l.loop.row l.loop.p (omega (arith, table-rows)) l.loop.invariant.1 in
+    let r = row_at a.table.now (rows_from 0 capability_names) l.loop.row l.loop.p (omega (arith, table_rows)) l.loop.invariant.1 in
     omega (arith, r.room)
 
 add-p-2 : tie.Need-overflow-add-p-2 invariant-loop decreases-loop
 add-p-2 c =
     let l = c.before.before.before.before.before.before in
     let a = l.before.before.args in
-    let r = row_at a.table.now (rows_from 0 capabilityNames) l.loop.row l.loop.p (omega (arith, table-rows)) l.loop.invariant.1 in
+    let r = row_at a.table.now (rows_from 0 capability_names) l.loop.row l.loop.p (omega (arith, table_rows)) l.loop.invariant.1 in
     omega (arith, r.room, r.first, c.before.before.before.wide.ensures.0)
 
 add_row : tie.Need-overflow-add-row invariant-loop decreases-loop
@@ -86,16 +86,16 @@ loop-again : tie.Need-loop-preserved invariant-loop decreases-loop
 loop-again c =
     let l = c.before.before.before.before.before.before in
     let a = l.before.before.args in
-    let r = row_at a.table.now (rows_from 0 capabilityNames) l.loop.row l.loop.p (omega (arith, table-rows)) l.loop.invariant.1 in
+    let r = row_at a.table.now (rows_from 0 capability_names) l.loop.row l.loop.p (omega (arith, table_rows)) l.loop.invariant.1 in
     let q = c.before.before.before.wide.ensures.0 ∙ r.first in
-    (length-next a.held l.loop.size l.loop.row l.loop.p c.before.before.before.wide.result c.before.wide2.result c.clause-length.result _ a.table.now (rows_from 0 capabilityNames) r q (c.before.wide2.ensures.0 ∙ r.second) c.clause-length.ensures l.loop.invariant.0, r.next c.before.before.before.wide.result q, search rules)
+    (length_next a.held l.loop.size l.loop.row l.loop.p c.before.before.before.wide.result c.before.wide2.result c.clause-length.result _ a.table.now (rows_from 0 capability_names) r q (c.before.wide2.ensures.0 ∙ r.second) c.clause-length.ensures l.loop.invariant.0, r.next c.before.before.before.wide.result q, search rules)
 
 returns : tie.Need-returns invariant-loop decreases-loop
 returns c =
     let l = c.before in
     let a = l.before.before.args in
     let h = c.loop-test.false in
-    let e = ap length (rows_end a.held l.loop.size (drop l.loop.row (rows_from 0 capabilityNames)) (drop_of_length-le (rows_from 0 capabilityNames) {i = l.loop.row} (omega (arith, table-rows, h)))) in
+    let e = ap length (rows_end a.held l.loop.size (drop l.loop.row (rows_from 0 capability_names)) (drop_of_length-le (rows_from 0 capability_names) {i = l.loop.row} (omega (arith, table_rows, h)))) in
     (omega (arith, e, l.loop.invariant.0), omega (arith, e, l.loop.invariant.0, longest.texts a.held))
 
 pub text-length-spec : {M : Type 1} → statement M

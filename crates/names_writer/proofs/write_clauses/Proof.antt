@@ -7,22 +7,22 @@ use lib.Dec.{eqb}
 use lib.ListN.{length, drop, length-append, drop_of_length-le}
 use lib.Seq.{sets}
 use borrow.Author.Rules.{rules}
-use Rattle.names.specs.Names.{capabilityNames}
-use Rattle.names.specs.Writing.{setsText}
+use Rattle.names.specs.Names.{capability_names}
+use Rattle.names.specs.Writing.{sets_text}
 use Rattle.names.specs.Inside.{row, flat, rows_from}
 use Rattle.names.proofs.Rows.{row_at}
-use Rattle.line_writer.proofs.LineLaws.{sets-append}
-use Rattle.names_writer.specs.Inside.{clauseAt, rowsText}
-use Rattle.names_writer.proofs.Texts.{table-rows, rows-text, rows_next, rows_end}
+use Rattle.line_writer.proofs.LineLaws.{sets_append}
+use Rattle.names_writer.specs.Inside.{clause_at, rows_text}
+use Rattle.names_writer.proofs.Texts.{table_rows, rows_text_lem, rows_next, rows_end}
 use Rattle.names_writer.proofs.write_clauses.Statement.{statement}
 use Rattle.names_writer.proofs.write_clauses.Tie as tie
 
 abbrev invariant-loop : tie.invariant-loop
 invariant-loop buf₀ held table p₀ row₀ at₀ buf p k at =
-    (sets buf at (rowsText at held (drop k (rows_from 0 capabilityNames))) ≡ sets buf₀ 0 (setsText held))
-    × (drop p table ≡ flat (drop k (rows_from 0 capabilityNames)))
+    (sets buf at (rows_text at held (drop k (rows_from 0 capability_names))) ≡ sets buf₀ 0 (sets_text held))
+    × (drop p table ≡ flat (drop k (rows_from 0 capability_names)))
     × (k ≤ 41)
-    × (at + length (rowsText at held (drop k (rows_from 0 capabilityNames))) ≡ length (setsText held))
+    × (at + length (rows_text at held (drop k (rows_from 0 capability_names))) ≡ length (sets_text held))
     × (length buf ≡ length buf₀)
 
 abbrev decreases-loop : tie.decreases-loop
@@ -31,7 +31,7 @@ decreases-loop buf₀ held table p₀ row₀ at₀ buf p k at = 41 - k
 loop-holds : tie.Need-loop-init invariant-loop decreases-loop
 loop-holds c =
     let s = c.before.before in
-    let e = rows-text s.args.held in
+    let e = rows_text_lem s.args.held in
     let n = ap length e in
     (ap (λ (t : List ℕ). sets s.args.buf.now 0 t) (sym e), s.requires.0, search rules, omega (arith, n), refl)
 
@@ -39,7 +39,7 @@ shared-slice-read-wide : tie.Need-shared-slice-read-wide invariant-loop decrease
 shared-slice-read-wide c =
     let l = c.before.before in
     let a = l.before.before.before.args in
-    let r = row_at a.table.now (rows_from 0 capabilityNames) l.loop.row l.loop.p (omega (arith, table-rows)) l.loop.invariant.1 in
+    let r = row_at a.table.now (rows_from 0 capability_names) l.loop.row l.loop.p (omega (arith, table_rows)) l.loop.invariant.1 in
     omega (arith, r.room)
 
 wide-requires : tie.Need-wide-requires invariant-loop decreases-loop
@@ -49,14 +49,14 @@ add_wide : tie.Need-overflow-add-wide invariant-loop decreases-loop
 add_wide c =
     let l = c.before.before.before in
     let a = l.before.before.before.args in
-    let r = row_at a.table.now (rows_from 0 capabilityNames) l.loop.row l.loop.p (omega (arith, table-rows)) l.loop.invariant.1 in
+    let r = row_at a.table.now (rows_from 0 capability_names) l.loop.row l.loop.p (omega (arith, table_rows)) l.loop.invariant.1 in
     omega (arith, r.room)
 
 shared-slice-read-wide-2 : tie.Need-shared-slice-read-wide-2 invariant-loop decreases-loop
 shared-slice-read-wide-2 c =
     let l = c.before.before.before.before in
     let a = l.before.before.before.args in
-    let r = row_at a.table.now (rows_from 0 capabilityNames) l.loop.row l.loop.p (omega (arith, table-rows)) l.loop.invariant.1 in
+    let r = row_at a.table.now (rows_from 0 capability_names) l.loop.row l.loop.p (omega (arith, table_rows)) l.loop.invariant.1 in
     omega (arith, r.room)
 
 wide-requires-2 : tie.Need-wide-requires-2 invariant-loop decreases-loop
@@ -66,14 +66,14 @@ add_start : tie.Need-overflow-add-start invariant-loop decreases-loop
 add_start c =
     let l = c.before.before.before.before.before in
     let a = l.before.before.before.args in
-    let r = row_at a.table.now (rows_from 0 capabilityNames) l.loop.row l.loop.p (omega (arith, table-rows)) l.loop.invariant.1 in
+    let r = row_at a.table.now (rows_from 0 capability_names) l.loop.row l.loop.p (omega (arith, table_rows)) l.loop.invariant.1 in
     omega (arith, r.room)
 
 add-end : tie.Need-overflow-add-end invariant-loop decreases-loop
 add-end c =
     let l = c.before.before.before.before.before in
     let a = l.before.before.before.args in
-    let r = row_at a.table.now (rows_from 0 capabilityNames) l.loop.row l.loop.p (omega (arith, table-rows)) l.loop.invariant.1 in
+    let r = row_at a.table.now (rows_from 0 capability_names) l.loop.row l.loop.p (omega (arith, table_rows)) l.loop.invariant.1 in
     omega (arith, r.room, r.first, c.before.before.wide.ensures.0)
 
 sub-write-clause : tie.Need-overflow-sub-write-clause invariant-loop decreases-loop
@@ -86,25 +86,25 @@ part-write-clause-end : tie.Need-slice-bounds-write-clause-end invariant-loop de
 part-write-clause-end c =
     let l = c.before.before.before.before.before.before in
     let a = l.before.before.before.args in
-    let r = row_at a.table.now (rows_from 0 capabilityNames) l.loop.row l.loop.p (omega (arith, table-rows)) l.loop.invariant.1 in
+    let r = row_at a.table.now (rows_from 0 capability_names) l.loop.row l.loop.p (omega (arith, table_rows)) l.loop.invariant.1 in
     omega (arith, r.room, r.first, c.before.before.before.wide.ensures.0)
 
 write-clause-requires : tie.Need-write-clause-requires invariant-loop decreases-loop
 write-clause-requires c κs =
     let l = c.before.before.before.before.before.before.before in
     let a = l.before.before.before.args in
-    let r = row_at a.table.now (rows_from 0 capabilityNames) l.loop.row l.loop.p (omega (arith, table-rows)) l.loop.invariant.1 in
+    let r = row_at a.table.now (rows_from 0 capability_names) l.loop.row l.loop.p (omega (arith, table_rows)) l.loop.invariant.1 in
     let name = c.before.before.before.before.wide.result in
     let number = c.before.before.wide2.result in
-    let cl = clauseAt (eqb l.loop.at 0) a.held (row r.text r.number) in
-    let rest = drop (l.loop.row + 1) (rows_from 0 capabilityNames) in
+    let cl = clause_at (eqb l.loop.at 0) a.held (row r.text r.number) in
+    let rest = drop (l.loop.row + 1) (rows_from 0 capability_names) in
     let q = c.before.before.before.before.wide.ensures.0 ∙ r.first in
     let m = c.before.before.wide2.ensures.0 ∙ r.second in
-    let z = ap (λ (v : List ℕ). clauseAt (eqb l.loop.at 0) a.held (row v number)) (r.key (l.loop.p + 2 + name - (l.loop.p + 2)) (omega (arith, q)))
-    ∙ ap (λ (i : ℕ). clauseAt (eqb l.loop.at 0) a.held (row r.text i)) m in
-    let t = rows_next a.held l.loop.at l.loop.row l.loop.p a.table.now (rows_from 0 capabilityNames) r in
+    let z = ap (λ (v : List ℕ). clause_at (eqb l.loop.at 0) a.held (row v number)) (r.key (l.loop.p + 2 + name - (l.loop.p + 2)) (omega (arith, q)))
+    ∙ ap (λ (i : ℕ). clause_at (eqb l.loop.at 0) a.held (row r.text i)) m in
+    let t = rows_next a.held l.loop.at l.loop.row l.loop.p a.table.now (rows_from 0 capability_names) r in
     let n = ap length t in
-    let u = length-append cl (rowsText (l.loop.at + length cl) a.held rest) in
+    let u = length-append cl (rows_text (l.loop.at + length cl) a.held rest) in
     omega (arith, ap length z, n, u, l.loop.invariant.3, l.loop.invariant.4, l.before.before.before.requires.1)
 
 add_row : tie.Need-overflow-add-row invariant-loop decreases-loop
@@ -117,30 +117,30 @@ loop-again : tie.Need-loop-preserved invariant-loop decreases-loop
 loop-again c =
     let l = c.before.before.before.before.before.before.before.before.before.before in
     let a = l.before.before.before.args in
-    let r = row_at a.table.now (rows_from 0 capabilityNames) l.loop.row l.loop.p (omega (arith, table-rows)) l.loop.invariant.1 in
+    let r = row_at a.table.now (rows_from 0 capability_names) l.loop.row l.loop.p (omega (arith, table_rows)) l.loop.invariant.1 in
     let name = c.before.before.before.before.before.before.before.wide.result in
     let number = c.before.before.before.before.before.wide2.result in
-    let cl = clauseAt (eqb l.loop.at 0) a.held (row r.text r.number) in
-    let rest = drop (l.loop.row + 1) (rows_from 0 capabilityNames) in
+    let cl = clause_at (eqb l.loop.at 0) a.held (row r.text r.number) in
+    let rest = drop (l.loop.row + 1) (rows_from 0 capability_names) in
     let q = c.before.before.before.before.before.before.before.wide.ensures.0 ∙ r.first in
     let m = c.before.before.before.before.before.wide2.ensures.0 ∙ r.second in
-    let z = ap (λ (v : List ℕ). clauseAt (eqb l.loop.at 0) a.held (row v number)) (r.key (l.loop.p + 2 + name - (l.loop.p + 2)) (omega (arith, q)))
-    ∙ ap (λ (i : ℕ). clauseAt (eqb l.loop.at 0) a.held (row r.text i)) m in
-    let t = rows_next a.held l.loop.at l.loop.row l.loop.p a.table.now (rows_from 0 capabilityNames) r in
+    let z = ap (λ (v : List ℕ). clause_at (eqb l.loop.at 0) a.held (row v number)) (r.key (l.loop.p + 2 + name - (l.loop.p + 2)) (omega (arith, q)))
+    ∙ ap (λ (i : ℕ). clause_at (eqb l.loop.at 0) a.held (row r.text i)) m in
+    let t = rows_next a.held l.loop.at l.loop.row l.loop.p a.table.now (rows_from 0 capability_names) r in
     let n = ap length t in
-    let u = length-append cl (rowsText (l.loop.at + length cl) a.held rest) in
+    let u = length-append cl (rows_text (l.loop.at + length cl) a.held rest) in
     let x = c.before.before.write-clause in
     let f = x.ensures.0 ∙ ap (λ (v : List ℕ). l.loop.at + length v) z in
     let g = x.ensures.1 ∙ ap (λ (v : List ℕ). sets l.loop.buf l.loop.at v) z in
-    let e : l.loop.at + length cl + length (rowsText (l.loop.at + length cl) a.held rest) ≡ length (setsText a.held) = omega (arith, n, u, l.loop.invariant.3) in (
-      ap (λ (v : List ℕ). sets v x.result (rowsText x.result a.held rest)) g
-          ∙ ap (λ (i : ℕ). sets (sets l.loop.buf l.loop.at cl) i (rowsText i a.held rest)) f
-          ∙ sym (sets-append cl (rowsText (l.loop.at + length cl) a.held rest) l.loop.buf l.loop.at)
+    let e : l.loop.at + length cl + length (rows_text (l.loop.at + length cl) a.held rest) ≡ length (sets_text a.held) = omega (arith, n, u, l.loop.invariant.3) in (
+      ap (λ (v : List ℕ). sets v x.result (rows_text x.result a.held rest)) g
+          ∙ ap (λ (i : ℕ). sets (sets l.loop.buf l.loop.at cl) i (rows_text i a.held rest)) f
+          ∙ sym (sets_append cl (rows_text (l.loop.at + length cl) a.held rest) l.loop.buf l.loop.at)
           ∙ ap (λ (v : List ℕ). sets l.loop.buf l.loop.at v) (sym t)
           ∙ l.loop.invariant.0,
       r.next name q,
       search rules,
-      ap (λ (i : ℕ). i + length (rowsText i a.held rest)) f ∙ e,
+      ap (λ (i : ℕ). i + length (rows_text i a.held rest)) f ∙ e,
       x.auto.0 ∙ l.loop.invariant.4,
     )
 
@@ -152,7 +152,7 @@ returns c =
     let l = c.before in
     let a = l.before.before.before.args in
     let h = c.loop-test.false in
-    let e = rows_end a.held l.loop.at (drop l.loop.row (rows_from 0 capabilityNames)) (drop_of_length-le (rows_from 0 capabilityNames) {i = l.loop.row} (omega (arith, table-rows, h))) in
+    let e = rows_end a.held l.loop.at (drop l.loop.row (rows_from 0 capability_names)) (drop_of_length-le (rows_from 0 capability_names) {i = l.loop.row} (omega (arith, table_rows, h))) in
     sym (ap (λ (t : List ℕ). sets l.loop.buf l.loop.at t) e) ∙ l.loop.invariant.0
 
 pub write-clauses-spec : {M : Type 1} → statement M

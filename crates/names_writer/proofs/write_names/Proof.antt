@@ -2,7 +2,7 @@
 use mathlib.Core.Path.{sym, ◌∙◌}
 use native.Mathlib.Omega.{arith}
 use borrow.Author.Rules.{rules}
-use Rattle.names_writer.proofs.Texts.{above, no_room, is-written}
+use Rattle.names_writer.proofs.Texts.{above, no_room, is_written}
 use Rattle.names_writer.proofs.write_names.Statement.{statement}
 use Rattle.names_writer.proofs.write_names.Tie as tie
 
@@ -44,7 +44,7 @@ returns-3 : tie.Need-returns-3
 returns-3 c =
     let a = c.before.before.before.before.before.before.before.before.before.before.before.before.args in
     let size = c.before.before.before.before.before.before.text-length in
-    let told = is-written a.held a.buf.now size.result (sym c.before.before.before.before.before.before.before.before.before.before.has-bits-above-40.ensures ∙ c.before.before.before.before.before.before.before.before.before.if1.false) size.ensures.0 (omega (arith, size.ensures.0, c.before.before.before.before.before.if2.false)) in
+    let told = is_written a.held a.buf.now size.result (sym c.before.before.before.before.before.before.before.before.before.before.has-bits-above-40.ensures ∙ c.before.before.before.before.before.before.before.before.before.if1.false) size.ensures.0 (omega (arith, size.ensures.0, c.before.before.before.before.before.if2.false)) in
     (told.0, c.before.before.write-clauses.ensures ∙ told.1)
 
 pub write-names-spec : {M : Type 1} → statement M

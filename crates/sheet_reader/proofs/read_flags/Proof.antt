@@ -1,6 +1,6 @@
 -- `sheet_reader::read_flags` meets its contract. Assumes nothing.
-use Rattle.format.specs.Sheet.{flagKinds}
-use Rattle.line_reader.specs.Positions.{linesAt}
+use Rattle.format.specs.Sheet.{flag_kinds}
+use Rattle.line_reader.specs.Positions.{lines_at}
 use borrow.Author.Rules.{rules}
 use Rattle.sheet_reader.proofs.read_flags.Statement.{statement}
 use Rattle.sheet_reader.proofs.read_flags.Tie as tie
@@ -18,7 +18,7 @@ read-decimal-requires : tie.Need-read-decimal-requires
 read-decimal-requires c κs = tt
 
 returns : tie.Need-returns
-unfolding linesAt flagKinds
+unfolding lines_at flag_kinds
 returns c =
     simp (
       ← c.before.read-decimal.ensures,

@@ -1,7 +1,7 @@
 -- `sheet_reader::read_front` meets its contract. Assumes nothing.
 use mathlib.Core.Path.{◌∙◌}
-use Rattle.format.specs.Sheet.{uidKinds, gidKinds}
-use Rattle.sheet_reader.proofs.Groups.{users-at-fault, groups-at-fault, sets-at-fault, front-at-fault, front_read}
+use Rattle.format.specs.Sheet.{uid_kinds, gid_kinds}
+use Rattle.sheet_reader.proofs.Groups.{users_at_fault, groups_at_fault, sets_at_fault, front_at_fault, front_read}
 use Rattle.sheet_reader.proofs.read_front.Statement.{statement}
 use Rattle.sheet_reader.proofs.read_front.Tie as tie
 
@@ -9,48 +9,48 @@ read-ids-requires : tie.Need-read-ids-requires
 read-ids-requires c κs = tt
 
 returns : tie.Need-returns
-unfolding uidKinds
-returns c = users-at-fault _ _ _ _ (c.before.before.read-ids.ensures _) c.if1.true
+unfolding uid_kinds
+returns c = users_at_fault _ _ _ _ (c.before.before.read-ids.ensures _) c.if1.true
 
 read-ids-requires-2 : tie.Need-read-ids-requires-2
 read-ids-requires-2 c κs = tt
 
 returns-2 : tie.Need-returns-2
-unfolding uidKinds gidKinds
+unfolding uid_kinds gid_kinds
 returns-2 c =
     let groups = c.before.before in
     let users = groups.before.before.before in
-    groups-at-fault _ _ _ _ (users.read-ids.ensures _) _ _ (groups.read-ids2.ensures _) c.if2.true
+    groups_at_fault _ _ _ _ (users.read-ids.ensures _) _ _ (groups.read-ids2.ensures _) c.if2.true
 
 read-sets-requires : tie.Need-read-sets-requires
 read-sets-requires c κs = tt
 
 returns-3 : tie.Need-returns-3
-unfolding uidKinds gidKinds
+unfolding uid_kinds gid_kinds
 returns-3 c =
     let sets = c.before.before in
     let groups = sets.before.before.before in
     let users = groups.before.before.before in
-    sets-at-fault _ _ _ _ (users.read-ids.ensures _) _ _ (groups.read-ids2.ensures _) _ _ sets.read-sets.ensures c.if3.true
+    sets_at_fault _ _ _ _ (users.read-ids.ensures _) _ _ (groups.read-ids2.ensures _) _ _ sets.read-sets.ensures c.if3.true
 
 read-flags-requires : tie.Need-read-flags-requires
 read-flags-requires c κs = tt
 
 returns-4 : tie.Need-returns-4
-unfolding uidKinds gidKinds
+unfolding uid_kinds gid_kinds
 returns-4 c =
     let flags = c.before.before in
     let sets = flags.before.before.before in
     let groups = sets.before.before.before in
     let users = groups.before.before.before in
-    front-at-fault _ _ _ _ _ _ _ _ _ _ _ (users.read-ids.ensures _) (groups.read-ids2.ensures _) sets.read-sets.ensures flags.read-Flags.ensures
+    front_at_fault _ _ _ _ _ _ _ _ _ _ _ (users.read-ids.ensures _) (groups.read-ids2.ensures _) sets.read-sets.ensures flags.read-Flags.ensures
     c.if4.true
 
 judged-requires : tie.Need-judged-requires
 judged-requires c κs = tt
 
 returns-5 : tie.Need-returns-5
-unfolding uidKinds gidKinds
+unfolding uid_kinds gid_kinds
 returns-5 c =
     let flags = c.before.before.before.before.before.before.before in
     let sets = flags.before.before.before in

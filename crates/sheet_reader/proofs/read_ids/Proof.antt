@@ -1,6 +1,6 @@
 -- `sheet_reader::read_ids` meets its contract. Assumes nothing.
-use Rattle.format.specs.Sheet.{idKinds}
-use Rattle.line_reader.specs.Positions.{linesAt}
+use Rattle.format.specs.Sheet.{id_kinds}
+use Rattle.line_reader.specs.Positions.{lines_at}
 use borrow.Author.Rules.{rules}
 use Rattle.sheet_reader.proofs.read_ids.Statement.{statement}
 use Rattle.sheet_reader.proofs.read_ids.Tie as tie
@@ -30,7 +30,7 @@ read-decimal-requires-4 : tie.Need-read-decimal-requires-4
 read-decimal-requires-4 c κs = tt
 
 returns : tie.Need-returns
-unfolding linesAt idKinds
+unfolding lines_at id_kinds
 returns c table =
     let c4 = c.before in
     let c3 = c4.before.before in

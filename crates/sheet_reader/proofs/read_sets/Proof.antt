@@ -1,6 +1,6 @@
 -- `sheet_reader::read_sets` meets its contract. Assumes nothing.
-use Rattle.format.specs.Sheet.{setKinds}
-use Rattle.line_reader.specs.Positions.{linesAt}
+use Rattle.format.specs.Sheet.{set_kinds}
+use Rattle.line_reader.specs.Positions.{lines_at}
 use borrow.Author.Rules.{rules}
 use Rattle.sheet_reader.proofs.read_sets.Statement.{statement}
 use Rattle.sheet_reader.proofs.read_sets.Tie as tie
@@ -36,7 +36,7 @@ read-hex16-requires-5 : tie.Need-read-hex16-requires-5
 read-hex16-requires-5 c κs = tt
 
 returns : tie.Need-returns
-unfolding linesAt setKinds
+unfolding lines_at set_kinds
 returns c =
     simp (
       ← c.before.read-hex165.ensures,

@@ -1,7 +1,7 @@
 -- `sheet_reader::read_sheet` meets its contract. Assumes nothing.
 use mathlib.Core.Path.{◌∙◌}
-use Rattle.sheet_reader.proofs.Format.{front-is}
-use Rattle.sheet_reader.proofs.Whole.{front-told, front-told-invalid, sheet-fault, sheet-longer, sheet-whole, sheet-invalid}
+use Rattle.sheet_reader.proofs.Format.{front_is}
+use Rattle.sheet_reader.proofs.Whole.{front_told, front_told_invalid, sheet_fault, sheet_longer, sheet_whole, sheet_invalid}
 use borrow.Author.Rules.{rules}
 use Rattle.sheet_reader.proofs.read_sheet.Statement.{statement}
 use Rattle.sheet_reader.proofs.read_sheet.Tie as tie
@@ -18,7 +18,7 @@ enum-known-line c = search rules
 returns : tie.Need-returns
 returns c =
     let front = c.before.before.before in
-    sheet-fault _ _ (front-is _ _ _ front.before.before.reading-table.ensures front.read-front.ensures ∙ c.before.line.given.1)
+    sheet_fault _ _ (front_is _ _ _ front.before.before.reading-table.ensures front.read-front.ensures ∙ c.before.line.given.1)
 
 enum-known-end : tie.Need-enum-known-end
 enum-known-end c = search rules
@@ -29,12 +29,12 @@ add-t12 c = search rules
 returns-2 : tie.Need-returns-2
 returns-2 c =
     let front = c.before.before.before.before in
-    sheet-longer _ _ _ _ (front-told-invalid _ _ _ (front-is _ _ _ front.before.before.reading-table.ensures front.read-front.ensures ∙ c.before.before.end.given.1)) c.if1.true
+    sheet_longer _ _ _ _ (front_told_invalid _ _ _ (front_is _ _ _ front.before.before.reading-table.ensures front.read-front.ensures ∙ c.before.before.end.given.1)) c.if1.true
 
 returns-3 : tie.Need-returns-3
 returns-3 c =
     let front = c.before.before.before.before in
-    sheet-invalid _ _ _ (front-told-invalid _ _ _ (front-is _ _ _ front.before.before.reading-table.ensures front.read-front.ensures ∙ c.before.before.end.given.1)) c.if1.false
+    sheet_invalid _ _ _ (front_told_invalid _ _ _ (front_is _ _ _ front.before.before.reading-table.ensures front.read-front.ensures ∙ c.before.before.end.given.1)) c.if1.false
 
 enum-known-read : tie.Need-enum-known-read
 enum-known-read c = search rules
@@ -45,12 +45,12 @@ add-t15 c = search rules
 returns-4 : tie.Need-returns-4
 returns-4 c =
     let front = c.before.before.before.before in
-    sheet-longer _ _ _ _ (front-told _ _ _ (front-is _ _ _ front.before.before.reading-table.ensures front.read-front.ensures ∙ c.before.before.read.given.1)) c.if2.true
+    sheet_longer _ _ _ _ (front_told _ _ _ (front_is _ _ _ front.before.before.reading-table.ensures front.read-front.ensures ∙ c.before.before.read.given.1)) c.if2.true
 
 returns-5 : tie.Need-returns-5
 returns-5 c =
     let front = c.before.before.before.before in
-    sheet-whole _ _ _ (front-told _ _ _ (front-is _ _ _ front.before.before.reading-table.ensures front.read-front.ensures ∙ c.before.before.read.given.1)) c.if2.false
+    sheet_whole _ _ _ (front_told _ _ _ (front_is _ _ _ front.before.before.reading-table.ensures front.read-front.ensures ∙ c.before.before.read.given.1)) c.if2.false
 
 pub read-sheet-spec : {M : Type 1} → statement M
 read-sheet-spec =

@@ -1,6 +1,6 @@
 -- `sheet_writer::sheet_length` meets its contract. Assumes nothing.
 use native.Mathlib.Omega.{arith}
-use Rattle.sheet_writer.proofs.Groups.{length-of-sheet}
+use Rattle.sheet_writer.proofs.Groups.{length_of_sheet}
 use Rattle.sheet_writer.proofs.sheet_length.Statement.{statement}
 use Rattle.sheet_writer.proofs.sheet_length.Tie as tie
 
@@ -20,7 +20,7 @@ returns : tie.Need-returns
 returns c =
     let users = c.before.ids-length.ensures in
     let groups = c.ids-length2.ensures in
-    (rw (length-of-sheet c.before.before.args.held, ← users.0, ← groups.0), omega (arith, users.1, groups.1))
+    (rw (length_of_sheet c.before.before.args.held, ← users.0, ← groups.0), omega (arith, users.1, groups.1))
 
 pub sheet-length-spec : {M : Type 1} → statement M
 sheet-length-spec =

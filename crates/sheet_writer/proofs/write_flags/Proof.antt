@@ -1,7 +1,7 @@
 -- `sheet_writer::write_flags` meets its contract. Assumes nothing.
-use Rattle.rules.proofs.Flags.{cast-is-number}
-use Rattle.format.specs.Sheet.{flagKinds}
-use Rattle.line_writer.specs.Inside.{linesPut}
+use Rattle.rules.proofs.Flags.{cast_is_number}
+use Rattle.format.specs.Sheet.{flag_kinds}
+use Rattle.line_writer.specs.Inside.{lines_put}
 use borrow.Author.Rules.{rules}
 use Rattle.sheet_writer.proofs.write_flags.Statement.{statement}
 use Rattle.sheet_writer.proofs.write_flags.Tie as tie
@@ -25,12 +25,12 @@ same_length : tie.Need-same-length
 same_length c = search rules
 
 returns : tie.Need-returns
-unfolding linesPut flagKinds
+unfolding lines_put flag_kinds
 returns c =
     let c2 = c.before.before in
     let c1 = c2.before.before.before.before.before in
     let nnp = c1.before.before.before.before.args.nnp in
-    rw (← c1.write-hex.ensures.0, ← c1.write-hex.ensures.1, ← (cast-is-number nnp)) c2.write-decimal.ensures
+    rw (← c1.write-hex.ensures.0, ← c1.write-hex.ensures.1, ← (cast_is_number nnp)) c2.write-decimal.ensures
 
 pub write-flags-spec : {M : Type 1} → statement M
 write-flags-spec =

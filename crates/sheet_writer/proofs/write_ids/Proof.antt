@@ -1,6 +1,6 @@
 -- `sheet_writer::write_ids` meets its contract. Assumes nothing.
-use Rattle.format.specs.Sheet.{idKinds}
-use Rattle.line_writer.specs.Inside.{linesPut}
+use Rattle.format.specs.Sheet.{id_kinds}
+use Rattle.line_writer.specs.Inside.{lines_put}
 use borrow.Author.Rules.{rules}
 use Rattle.sheet_writer.proofs.write_ids.Statement.{statement}
 use Rattle.sheet_writer.proofs.write_ids.Tie as tie
@@ -33,7 +33,7 @@ same_length : tie.Need-same-length
 same_length c = search rules
 
 returns : tie.Need-returns
-unfolding linesPut idKinds
+unfolding lines_put id_kinds
 returns c table =
     let c4 = c.before.before in
     let c3 = c4.before.before.before.before.before in

@@ -1,6 +1,6 @@
 -- `sheet_writer::write_sets` meets its contract. Assumes nothing.
-use Rattle.format.specs.Sheet.{setKinds}
-use Rattle.line_writer.specs.Inside.{linesPut}
+use Rattle.format.specs.Sheet.{set_kinds}
+use Rattle.line_writer.specs.Inside.{lines_put}
 use borrow.Author.Rules.{rules}
 use Rattle.sheet_writer.proofs.write_sets.Statement.{statement}
 use Rattle.sheet_writer.proofs.write_sets.Tie as tie
@@ -39,7 +39,7 @@ same_length : tie.Need-same-length
 same_length c = search rules
 
 returns : tie.Need-returns
-unfolding linesPut setKinds
+unfolding lines_put set_kinds
 returns c =
     let c5 = c.before.before in
     let c4 = c5.before.before.before.before.before in

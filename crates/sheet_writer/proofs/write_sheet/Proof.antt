@@ -1,6 +1,6 @@
 -- `sheet_writer::write_sheet` meets its contract. Assumes nothing.
 use mathlib.Core.Path.{◌∙◌}
-use Rattle.sheet_writer.proofs.Answers.{at-the-front, buffer-by-the-table}
+use Rattle.sheet_writer.proofs.Answers.{at_the_front, buffer_by_the_table}
 use borrow.Author.Rules.{rules}
 use Rattle.sheet_writer.proofs.write_sheet.Statement.{statement}
 use Rattle.sheet_writer.proofs.write_sheet.Tie as tie
@@ -16,9 +16,9 @@ same_length c = search rules
 
 returns : tie.Need-returns
 returns c =
-    let front = at-the-front _ _ in
+    let front = at_the_front _ _ in
     let w = c.before.before.write-at.ensures in
-    (w.0 ∙ front.0, w.1 ∙ buffer-by-the-table _ _ _ _ c.before.before.before.before.before.writing-table.ensures ∙ front.1)
+    (w.0 ∙ front.0, w.1 ∙ buffer_by_the_table _ _ _ _ c.before.before.before.before.before.writing-table.ensures ∙ front.1)
 
 pub write-sheet-spec : {M : Type 1} → statement M
 write-sheet-spec = tie.close (tie.spec writing-table-requires write-at-requires same_length returns)

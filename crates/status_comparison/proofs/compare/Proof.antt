@@ -1,7 +1,7 @@
 -- `status_comparison::compare` meets its contract. Assumes nothing.
 use mathlib.Core.Path.{refl, sym, ◌∙◌}
 use borrow.Author.Rules.{rules}
-use Rattle.status_comparison.proofs.Laws.{compared-fault, compared-found}
+use Rattle.status_comparison.proofs.Laws.{compared_fault, compared_found}
 use Rattle.status_comparison.proofs.compare.Statement.{statement}
 use Rattle.status_comparison.proofs.compare.Tie as tie
 
@@ -21,7 +21,7 @@ returns : tie.Need-returns
 returns c =
     let a = c.before.before.before.before.before.before.args in
     let l = c.before.line.given in
-    rw (compared-fault a.status.now a.predicted l.0.0 (sym c.before.before.before.read-status.ensures ∙ l.1)) (refl, refl)
+    rw (compared_fault a.status.now a.predicted l.0.0 (sym c.before.before.before.read-status.ensures ∙ l.1)) (refl, refl)
 
 same_length : tie.Need-same-length
 same_length c = search rules
@@ -31,7 +31,7 @@ returns-2 c =
     let a = c.before.before.before.before.before.before.before.before.before.before.args in
     let f = c.before.before.before.before.before.found.given in
     let e = sym c.before.before.before.before.before.before.before.read-status.ensures ∙ f.1 in
-    rw (compared-found a.status.now a.predicted f.0.0 e) c.before.before.lay-beside.ensures
+    rw (compared_found a.status.now a.predicted f.0.0 e) c.before.before.lay-beside.ensures
 
 pub compare-spec : {M : Type 1} → statement M
 compare-spec =

@@ -2,8 +2,8 @@
 use mathlib.Core.Path.{refl}
 use native.Mathlib.Omega.{arith}
 use borrow.Author.Tests.{eq-eqb, ne_eqb}
-use Rattle.status.specs.Lines.{idForm}
-use Rattle.status_comparison.proofs.Laws.{line-length}
+use Rattle.status.specs.Lines.{id_form}
+use Rattle.status_comparison.proofs.Laws.{line_length}
 use borrow.Author.Rules.{rules}
 use Rattle.status_comparison.proofs.id_length.Statement.{statement}
 use Rattle.status_comparison.proofs.id_length.Tie as tie
@@ -29,7 +29,7 @@ add-result-3 c = search rules
 returns-2 : tie.Need-returns-2
 returns-2 c =
     let a = c.before.before.before.before.args in
-    let n = line-length a.key.now idForm a.predicted a.found (ne_eqb _ _ c.before.before.if1.false) in
+    let n = line_length a.key.now id_form a.predicted a.found (ne_eqb _ _ c.before.before.if1.false) in
     omega (arith, n)
 
 pub id-length-spec : {M : Type 1} → statement M

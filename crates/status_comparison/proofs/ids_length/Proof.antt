@@ -1,6 +1,6 @@
 -- `status_comparison::ids_length` meets its contract. Assumes nothing.
 use native.Mathlib.Omega.{arith}
-use Rattle.status_comparison.proofs.Laws.{ids-length}
+use Rattle.status_comparison.proofs.Laws.{ids_length}
 use borrow.Author.Rules.{rules}
 use Rattle.status_comparison.proofs.ids_length.Statement.{statement}
 use Rattle.status_comparison.proofs.ids_length.Tie as tie
@@ -41,7 +41,7 @@ add-result-3 c = search rules
 returns : tie.Need-returns
 returns c =
     let a = c.before.before.before.before.before.before.before.before.args in
-    omega (arith, ids-length a.predicted a.found)
+    omega (arith, ids_length a.predicted a.found)
 
 pub ids-length-spec : {M : Type 1} → statement M
 ids-length-spec =

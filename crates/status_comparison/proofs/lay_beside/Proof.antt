@@ -1,7 +1,7 @@
 -- `status_comparison::lay_beside` meets its contract. Assumes nothing.
 use mathlib.Core.Path.{sym, ◌∙◌}
 use native.Mathlib.Omega.{arith}
-use Rattle.status_comparison.proofs.Laws.{not_valid, no_room, is-written}
+use Rattle.status_comparison.proofs.Laws.{not_valid, no_room, is_written}
 use borrow.Author.Rules.{rules}
 use Rattle.status_comparison.proofs.lay_beside.Statement.{statement}
 use Rattle.status_comparison.proofs.lay_beside.Tie as tie
@@ -37,7 +37,7 @@ returns-2 : tie.Need-returns-2
 returns-2 c =
     let a = c.before.before.before.before.before.before.before.before.before.before.before.args in
     let size = c.before.before.before.before.before.before.before.list_length in
-    is-written a.found a.predicted a.list.now size.result _ (sym c.before.before.before.before.before.before.before.before.before.is-valid.ensures ∙ c.before.before.before.before.before.before.before.before.if1.true) size.ensures.0 (omega arith) c.before.before.write-list.ensures.buffer
+    is_written a.found a.predicted a.list.now size.result _ (sym c.before.before.before.before.before.before.before.before.before.is-valid.ensures ∙ c.before.before.before.before.before.before.before.before.if1.true) size.ensures.0 (omega arith) c.before.before.write-list.ensures.buffer
 
 refused-requires-2 : tie.Need-refused-requires-2
 refused-requires-2 c κs = search rules

@@ -1,6 +1,6 @@
 -- `status_comparison::list_length` meets its contract. Assumes nothing.
 use native.Mathlib.Omega.{arith}
-use Rattle.rules.proofs.Flags.{cast-is-number}
+use Rattle.rules.proofs.Flags.{cast_is_number}
 use Rattle.status_comparison.proofs.Laws.{list_length}
 use borrow.Author.Rules.{rules}
 use Rattle.status_comparison.proofs.list_length.Statement.{statement}
@@ -36,7 +36,7 @@ add-result-3 c = search rules
 returns : tie.Need-returns
 returns c =
     let a = c.before.before.before.before.before.before.args in
-    let nnp = rw (cast-is-number a.predicted.nnp, cast-is-number a.found.nnp) at c.id-length.ensures in
+    let nnp = rw (cast_is_number a.predicted.nnp, cast_is_number a.found.nnp) at c.id-length.ensures in
     omega (arith, list_length a.predicted a.found)
 
 pub list-length-spec : {M : Type 1} → statement M

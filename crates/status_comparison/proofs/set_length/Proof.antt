@@ -2,9 +2,9 @@
 use mathlib.Core.Path.{refl}
 use native.Mathlib.Omega.{arith}
 use borrow.Author.Tests.{eq-eqb, ne_eqb}
-use Rattle.format.proofs.Lengths.{length-hex}
-use Rattle.status.specs.Lines.{setForm}
-use Rattle.status_comparison.proofs.Laws.{line-length}
+use Rattle.format.proofs.Lengths.{length_hex}
+use Rattle.status.specs.Lines.{set_form}
+use Rattle.status_comparison.proofs.Laws.{line_length}
 use borrow.Author.Rules.{rules}
 use Rattle.status_comparison.proofs.set_length.Statement.{statement}
 use Rattle.status_comparison.proofs.set_length.Tie as tie
@@ -27,8 +27,8 @@ add-result-3 c = search rules
 returns-2 : tie.Need-returns-2
 returns-2 c =
     let a = c.before.args in
-    let n = line-length a.key.now setForm a.predicted a.found (ne_eqb _ _ c.if1.false) in
-    omega (arith, n, length-hex 16 a.predicted, length-hex 16 a.found)
+    let n = line_length a.key.now set_form a.predicted a.found (ne_eqb _ _ c.if1.false) in
+    omega (arith, n, length_hex 16 a.predicted, length_hex 16 a.found)
 
 pub set-length-spec : {M : Type 1} → statement M
 set-length-spec =

@@ -1,6 +1,6 @@
 -- `status_comparison::sets_length` meets its contract. Assumes nothing.
 use native.Mathlib.Omega.{arith}
-use Rattle.status_comparison.proofs.Laws.{sets-length}
+use Rattle.status_comparison.proofs.Laws.{sets_length}
 use borrow.Author.Rules.{rules}
 use Rattle.status_comparison.proofs.sets_length.Statement.{statement}
 use Rattle.status_comparison.proofs.sets_length.Tie as tie
@@ -50,7 +50,7 @@ add-result-4 c = search rules
 returns : tie.Need-returns
 returns c =
     let a = c.before.before.before.before.before.before.before.before.before.before.args in
-    omega (arith, sets-length a.predicted a.found)
+    omega (arith, sets_length a.predicted a.found)
 
 pub sets-length-spec : {M : Type 1} → statement M
 sets-length-spec =

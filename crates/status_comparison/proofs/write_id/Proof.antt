@@ -1,13 +1,13 @@
 -- `status_comparison::write_id` meets its contract. Assumes nothing.
 use borrow.Author.Tests.{eq-eqb, ne_eqb}
-use Rattle.format.specs.Line.{decimalText}
-use Rattle.status_comparison.proofs.Laws.{put-nothing, past-some, line-put}
+use Rattle.format.specs.Line.{decimal_text}
+use Rattle.status_comparison.proofs.Laws.{put_nothing, past_some, line_put}
 use borrow.Author.Rules.{rules}
 use Rattle.status_comparison.proofs.write_id.Statement.{statement}
 use Rattle.status_comparison.proofs.write_id.Tie as tie
 
 returns : tie.Need-returns
-returns c = rw (eq-eqb _ _ c.if1.true) (put-nothing _ _)
+returns c = rw (eq-eqb _ _ c.if1.true) (put_nothing _ _)
 
 write-decimal-requires : tie.Need-write-decimal-requires
 write-decimal-requires c κs = search rules
@@ -17,7 +17,7 @@ sub-write-decimal c =
     let s = c.before.before.before.before.before.before.before.before in
     let a = s.args in
     let fits = rw (ne_eqb _ _ c.before.before.before.before.before.if1.false) at s.requires in
-    past-some a.key.now (decimalText a.predicted) (decimalText a.found) _ _ _ _ fits c.before.before.before.write-decimal.ensures
+    past_some a.key.now (decimal_text a.predicted) (decimal_text a.found) _ _ _ _ fits c.before.before.before.write-decimal.ensures
 
 slice-aggregate-write-decimal : tie.Need-slice-aggregate-write-decimal
 slice-aggregate-write-decimal c = search rules
@@ -34,7 +34,7 @@ returns-2 c =
     let a = s.args in
     let differ = ne_eqb _ _ c.before.before.before.before.before.before.before.before.before.if1.false in
     let fits = rw differ at s.requires in
-    rw differ (line-put a.key.now (decimalText a.predicted) (decimalText a.found) _ _ _ _ fits c.before.before.before.before.before.before.before.write-decimal.ensures c.before.before.write-decimal2.ensures)
+    rw differ (line_put a.key.now (decimal_text a.predicted) (decimal_text a.found) _ _ _ _ fits c.before.before.before.before.before.before.before.write-decimal.ensures c.before.before.write-decimal2.ensures)
 
 pub write-id-spec : {M : Type 1} → statement M
 write-id-spec =

@@ -1,8 +1,8 @@
 -- `status_comparison::write_list` meets its contract. Assumes nothing.
 use native.Mathlib.Omega.{arith}
-use Rattle.rules.proofs.Flags.{cast-is-number}
-use Rattle.status.specs.Comparing.{lastLine}
-use Rattle.status_comparison.proofs.Laws.{list-lines, list_length, put_then, put-text}
+use Rattle.rules.proofs.Flags.{cast_is_number}
+use Rattle.status.specs.Comparing.{last_line}
+use Rattle.status_comparison.proofs.Laws.{list_lines, list_length, put_then, put_text}
 use borrow.Author.Rules.{rules}
 use Rattle.status_comparison.proofs.write_list.Statement.{statement}
 use Rattle.status_comparison.proofs.write_list.Tie as tie
@@ -29,7 +29,7 @@ cast-write-id-2 c = search rules
 write-id-requires : tie.Need-write-id-requires
 write-id-requires c κs =
     let a = c.before.before.before.before.before.before.before.before.before.before.before.before.before.args in
-    rw (cast-is-number a.predicted.nnp, cast-is-number a.found.nnp) (omega (arith, list_length a.predicted a.found))
+    rw (cast_is_number a.predicted.nnp, cast_is_number a.found.nnp) (omega (arith, list_length a.predicted a.found))
 
 slice-aggregate-write-bytes : tie.Need-slice-aggregate-write-bytes
 slice-aggregate-write-bytes c = search rules
@@ -41,19 +41,19 @@ same_length : tie.Need-same-length
 same_length c = search rules
 
 returns : tie.Need-returns
-unfolding lastLine
+unfolding last_line
 returns c =
     let s = c.before.before.before.before.before.before.before.before.before.before.before.before.before.before.before.before.before.before.before.before.before in
     let a = s.args in
     let ids = c.before.before.before.before.before.before.before.before.before.before.before.before.before.before.before.before.before.before.write-ids in
     let sets = c.before.before.before.before.before.before.before.before.before.before.before.before.before.before.write-sets in
     let nnp = c.before.before.before.before.before.before.before.write-id in
-    let line = rw (cast-is-number a.predicted.nnp, cast-is-number a.found.nnp) at nnp.ensures in
-    rw (list-lines a.predicted a.found)
+    let line = rw (cast_is_number a.predicted.nnp, cast_is_number a.found.nnp) at nnp.ensures in
+    rw (list_lines a.predicted a.found)
     (put_then ids.ensures
     (put_then sets.ensures
     (put_then line
-    (put-text nnp.new.0 _ nnp.result _ lastLine (omega (arith, list_length a.predicted a.found, s.requires.0, ids.ensures.position, ids.auto.0, sets.ensures.position, sets.auto.0)) c.before.before.write_bytes.ensures))))
+    (put_text nnp.new.0 _ nnp.result _ last_line (omega (arith, list_length a.predicted a.found, s.requires.0, ids.ensures.position, ids.auto.0, sets.ensures.position, sets.auto.0)) c.before.before.write_bytes.ensures))))
 
 pub write-list-spec : {M : Type 1} → statement M
 write-list-spec =

@@ -1,13 +1,13 @@
 -- `status_comparison::write_set` meets its contract. Assumes nothing.
 use borrow.Author.Tests.{eq-eqb, ne_eqb}
-use Rattle.hex_tables.specs.Tables.{hexTextBy}
-use Rattle.status_comparison.proofs.Laws.{put-nothing, past-some, line-put, by-the-table}
+use Rattle.hex_tables.specs.Tables.{hex_text_by}
+use Rattle.status_comparison.proofs.Laws.{put_nothing, past_some, line_put, by_the_table}
 use borrow.Author.Rules.{rules}
 use Rattle.status_comparison.proofs.write_set.Statement.{statement}
 use Rattle.status_comparison.proofs.write_set.Tie as tie
 
 returns : tie.Need-returns
-returns c = rw (eq-eqb _ _ c.if1.true) (put-nothing _ _)
+returns c = rw (eq-eqb _ _ c.if1.true) (put_nothing _ _)
 
 write-hex-requires : tie.Need-write-hex-requires
 write-hex-requires c κs = search rules
@@ -17,8 +17,8 @@ sub-write-hex c =
     let s = c.before.before.before.before.before.before.before.before in
     let a = s.args in
     let table = a.table.now in
-    let fits = rw (ne_eqb _ _ c.before.before.before.before.before.if1.false, by-the-table table a.predicted s.requires.1, by-the-table table a.found s.requires.1) at s.requires.0 in
-    past-some a.key.now (hexTextBy table 16 a.predicted) (hexTextBy table 16 a.found) _ _ _ _ fits c.before.before.before.write-hex.ensures
+    let fits = rw (ne_eqb _ _ c.before.before.before.before.before.if1.false, by_the_table table a.predicted s.requires.1, by_the_table table a.found s.requires.1) at s.requires.0 in
+    past_some a.key.now (hex_text_by table 16 a.predicted) (hex_text_by table 16 a.found) _ _ _ _ fits c.before.before.before.write-hex.ensures
 
 slice-aggregate-write-hex : tie.Need-slice-aggregate-write-hex
 slice-aggregate-write-hex c = search rules
@@ -35,11 +35,11 @@ returns-2 c =
     let a = s.args in
     let table = a.table.now in
     let differ = ne_eqb _ _ c.before.before.before.before.before.before.before.before.before.if1.false in
-    let first = by-the-table table a.predicted s.requires.1 in
-    let second = by-the-table table a.found s.requires.1 in
+    let first = by_the_table table a.predicted s.requires.1 in
+    let second = by_the_table table a.found s.requires.1 in
     let fits = rw (differ, first, second) at s.requires.0 in
     rw (differ, first, second)
-    (line-put a.key.now (hexTextBy table 16 a.predicted) (hexTextBy table 16 a.found) _ _ _ _ fits c.before.before.before.before.before.before.before.write-hex.ensures c.before.before.write-hex2.ensures)
+    (line_put a.key.now (hex_text_by table 16 a.predicted) (hex_text_by table 16 a.found) _ _ _ _ fits c.before.before.before.before.before.before.before.write-hex.ensures c.before.before.write-hex2.ensures)
 
 pub write-set-spec : {M : Type 1} → statement M
 write-set-spec =

@@ -5,7 +5,7 @@ use mathlib.Core.Bool.{false}
 use native.Mathlib.Omega.{arith}
 use borrow.Author.Rules.{rules}
 use Rattle.status_reader.specs.declared.places.Place.{Place}
-use Rattle.status_reader.proofs.PlaceLaws.{answered, seven, after-fault, no-fault, fault-further, all_read}
+use Rattle.status_reader.proofs.PlaceLaws.{answered, seven, after_fault, no_fault, fault_further, all_read}
 use Rattle.status_reader.proofs.read_status.Statement.{statement}
 use Rattle.status_reader.proofs.read_status.Tie as tie
 
@@ -62,7 +62,7 @@ returns c =
     let a = c.before.before.before.before.read-set5 in
     let f = c.before.before.read-flag in
     let all = seven t start u.result.place i.result.place p.result.place e.result.place b.result.place a.result.place f.result.place u.result.ids i.result.value p.result.value e.result.value b.result.value a.result.value f.result.value u.ensures.0 i.ensures.0 p.ensures.0 e.ensures.0 b.ensures.0 a.ensures.0 f.ensures.0 in
-    sym (answered t _ _ _ all (after-fault t f.result.place [] c.if1.true))
+    sym (answered t _ _ _ all (after_fault t f.result.place [] c.if1.true))
 
 wanted-line-requires : tie.Need-wanted-line-requires
 wanted-line-requires c κs = let g = c.before.before.read-flag.ensures.1 in (g.within c.if1.false, g.lines c.if1.false)
@@ -82,7 +82,7 @@ returns-2 c =
     let f = c.before.before.before.before.before.before.read-flag in
     let all = seven t start u.result.place i.result.place p.result.place e.result.place b.result.place a.result.place f.result.place u.result.ids i.result.value p.result.value e.result.value b.result.value a.result.value f.result.value u.ensures.0 i.ensures.0 p.ensures.0 e.ensures.0 b.ensures.0 a.ensures.0 f.ensures.0 in
     let w = c.before.before.before.wanted-line in
-    sym (answered t _ _ _ all (no-fault t f.result.place [] c.before.before.before.before.if1.false ∙ w.ensures.0 [] ∙ fault-further t w.result c.before.if2.true))
+    sym (answered t _ _ _ all (no_fault t f.result.place [] c.before.before.before.before.if1.false ∙ w.ensures.0 [] ∙ fault_further t w.result c.before.if2.true))
 
 returns-3 : tie.Need-returns-3
 returns-3 c =
@@ -96,7 +96,7 @@ returns-3 c =
     let f = c.before.before.before.before.before.before.before.read-flag in
     let all = seven t start u.result.place i.result.place p.result.place e.result.place b.result.place a.result.place f.result.place u.result.ids i.result.value p.result.value e.result.value b.result.value a.result.value f.result.value u.ensures.0 i.ensures.0 p.ensures.0 e.ensures.0 b.ensures.0 a.ensures.0 f.ensures.0 in
     let w = c.before.before.before.before.wanted-line in
-    sym (answered t _ _ _ all (no-fault t f.result.place [] c.before.before.before.before.before.if1.false ∙ w.ensures.0 [] ∙ all_read t w.result c.before.before.if2.false))
+    sym (answered t _ _ _ all (no_fault t f.result.place [] c.before.before.before.before.before.if1.false ∙ w.ensures.0 [] ∙ all_read t w.result c.before.before.if2.false))
 
 pub read-status-spec : {M : Type 1} → statement M
 read-status-spec =

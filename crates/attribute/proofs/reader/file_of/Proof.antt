@@ -1,5 +1,5 @@
 -- `attribute::reader::file_of` meets its contract. Assumes nothing.
-use Rattle.attribute.specs.Reader.{fileOf}
+use Rattle.attribute.specs.Reader.{file_of}
 use borrow.Author.Tests.{eq-eqb, ne_eqb}
 use borrow.Author.Rules.{rules}
 use Rattle.attribute.proofs.reader.file_of.Statement.{statement}
@@ -12,7 +12,7 @@ version-1-requires : tie.Need-version-1-requires
 version-1-requires c κs = search rules
 
 returns : tie.Need-returns
-unfolding fileOf
+unfolding file_of
 returns c =
     simp (
       ← c.version-1.ensures,
@@ -24,7 +24,7 @@ version-2-requires : tie.Need-version-2-requires
 version-2-requires c κs = search rules
 
 returns-2 : tie.Need-returns-2
-unfolding fileOf
+unfolding file_of
 returns-2 c =
     simp (
       ← c.version-2.ensures,

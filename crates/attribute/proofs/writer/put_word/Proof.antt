@@ -2,7 +2,7 @@
 use native.Mathlib.Omega.{arith}
 use lib.ListN.{length-set}
 use Rattle.attribute.specs.Words.{word_bytes}
-use Rattle.attribute.proofs.Stores.{four-stores}
+use Rattle.attribute.proofs.Stores.{four_stores}
 use borrow.Author.Rules.{rules}
 use Rattle.attribute.proofs.writer.put_word.Statement.{statement}
 use Rattle.attribute.proofs.writer.put_word.Tie as tie
@@ -45,7 +45,7 @@ same_length c = search rules
 
 returns : tie.Need-returns
 unfolding word_bytes
-returns c = four-stores c.args.buffer.now c.args.at _ _ _ _
+returns c = four_stores c.args.buffer.now c.args.at _ _ _ _
 
 pub put-word-spec : {M : Type 1} → statement M
 put-word-spec =

@@ -3,8 +3,8 @@ use Prim.Native.Nat.{ℕ, ◌/◌, ◌%◌}
 use mathlib.Core.Path.{ap, ◌∙◌}
 use lib.Seq.{sets}
 use Rattle.attribute.specs.Words.{word_bytes}
-use Rattle.attribute.specs.Writer.{firstWord, version2Bytes}
-use Rattle.attribute.proofs.Stores.{five-words}
+use Rattle.attribute.specs.Writer.{first_word, version2_bytes}
+use Rattle.attribute.proofs.Stores.{five_words}
 use borrow.Author.Rules.{rules}
 use Rattle.attribute.proofs.writer.put_words.Statement.{statement}
 use Rattle.attribute.proofs.writer.put_words.Tie as tie
@@ -31,7 +31,7 @@ same_length : tie.Need-same-length
 same_length c = search rules
 
 returns : tie.Need-returns
-unfolding version2Bytes
+unfolding version2_bytes
 returns c =
     let fifth = c.before.before in
     let fourth = fifth.before.before.before.before in
@@ -40,7 +40,7 @@ returns c =
     let first = second.before.before.before.before in
     let flag = first.before.before in
     let a = flag.before.before.args in
-    five-words a.buffer.now (firstWord a.effective) (a.permitted % 0x100000000) (a.inheritable % 0x100000000) (a.permitted / 0x100000000)
+    five_words a.buffer.now (first_word a.effective) (a.permitted % 0x100000000) (a.inheritable % 0x100000000) (a.permitted / 0x100000000)
     (a.inheritable / 0x100000000)
     (first.put_word.ensures ∙ ap (λ (w : ℕ). sets a.buffer.now 0 (word_bytes w)) flag.first_word.ensures)
     second.put-word2.ensures third.put-word3.ensures fourth.put-word4.ensures fifth.put-word5.ensures

@@ -1,5 +1,5 @@
 -- `calls::ambient::ambient_lower` meets its contract. Assumes nothing.
-use Rattle.rules.specs.Ambient.{ambientLower}
+use Rattle.rules.specs.Ambient.{ambient_lower}
 use Rattle.calls.proofs.ambient.ambient_lower.Statement.{statement}
 use Rattle.calls.proofs.ambient.ambient_lower.Tie as tie
 
@@ -10,7 +10,7 @@ difference-requires : tie.Need-difference-requires
 difference-requires c κs = tt
 
 returns : tie.Need-returns
-unfolding ambientLower
+unfolding ambient_lower
 returns c =
     simp (
       ← c.before.difference.ensures,

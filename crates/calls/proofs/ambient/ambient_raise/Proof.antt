@@ -1,5 +1,5 @@
 -- `calls::ambient::ambient_raise` meets its contract. Assumes nothing.
-use Rattle.rules.specs.Ambient.{ambientRaise}
+use Rattle.rules.specs.Ambient.{ambient_raise}
 use borrow.Author.Tests.{eq-eqb, ne_eqb}
 use Rattle.calls.proofs.ambient.ambient_raise.Statement.{statement}
 use Rattle.calls.proofs.ambient.ambient_raise.Tie as tie
@@ -11,7 +11,7 @@ lacks-requires-2 : tie.Need-lacks-requires-2
 lacks-requires-2 c κs = tt
 
 returns : tie.Need-returns
-unfolding ambientRaise
+unfolding ambient_raise
 returns c =
     simp (
       c.if1.true,
@@ -20,7 +20,7 @@ returns c =
     )
 
 returns-2 : tie.Need-returns-2
-unfolding ambientRaise
+unfolding ambient_raise
 returns-2 c =
     simp (
       ne_eqb _ _ c.if2.true,
@@ -33,7 +33,7 @@ single-requires : tie.Need-single-requires
 single-requires c κs = tt
 
 returns-3 : tie.Need-returns-3
-unfolding ambientRaise
+unfolding ambient_raise
 returns-3 c =
     simp (
       ← c.before.before.single.ensures,

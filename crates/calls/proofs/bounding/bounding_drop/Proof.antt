@@ -1,5 +1,5 @@
 -- `calls::bounding::bounding_drop` meets its contract. Assumes nothing.
-use Rattle.rules.specs.Bounding.{boundingDrop}
+use Rattle.rules.specs.Bounding.{bounding_drop}
 use Rattle.calls.proofs.bounding.bounding_drop.Statement.{statement}
 use Rattle.calls.proofs.bounding.bounding_drop.Tie as tie
 
@@ -7,7 +7,7 @@ lacks-requires : tie.Need-lacks-requires
 lacks-requires c κs = tt
 
 returns : tie.Need-returns
-unfolding boundingDrop
+unfolding bounding_drop
 returns c =
     simp (
       c.if1.true,
@@ -21,7 +21,7 @@ difference-requires : tie.Need-difference-requires
 difference-requires c κs = tt
 
 returns-2 : tie.Need-returns-2
-unfolding boundingDrop
+unfolding bounding_drop
 returns-2 c =
     simp (
       ← c.before.difference.ensures,

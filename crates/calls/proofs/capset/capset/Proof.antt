@@ -1,5 +1,5 @@
 -- `calls::capset::capset` meets its contract. Assumes nothing.
-use Rattle.rules.specs.Capset.{capset, capsetSets}
+use Rattle.rules.specs.Capset.{capset, capset_sets}
 use Rattle.calls.proofs.capset.capset.Statement.{statement}
 use Rattle.calls.proofs.capset.capset.Tie as tie
 
@@ -67,7 +67,7 @@ returns-4 c =
     )
 
 returns-5 : tie.Need-returns-5
-unfolding capset capsetSets
+unfolding capset capset_sets
 returns-5 c =
     rw (
       ← c.before.before.before.before.before.before.before.before.before.before.before.before.before.before.before.lacks.ensures,

@@ -1,6 +1,6 @@
 -- `calls::decoding::decode` meets its contract. Assumes nothing.
 use Rattle.calls.proofs.Unknown.{unknown}
-use Rattle.rules.specs.Decoding.{decode, usesOne}
+use Rattle.rules.specs.Decoding.{decode, uses_one}
 use borrow.Author.Tests.{ne_eqb}
 use Rattle.calls.proofs.decoding.decode.Statement.{statement}
 use Rattle.calls.proofs.decoding.decode.Tie as tie
@@ -81,7 +81,7 @@ known-requires-22 : tie.Need-known-requires-22
 known-requires-22 c κs = tt
 
 returns : tie.Need-returns
-unfolding decode usesOne
+unfolding decode uses_one
 returns c =
     simp (
       ← c.known.ensures,
@@ -89,7 +89,7 @@ returns c =
     )
 
 returns-2 : tie.Need-returns-2
-unfolding decode usesOne
+unfolding decode uses_one
 returns-2 c =
     simp (
       ← c.known2.ensures,
@@ -100,7 +100,7 @@ returns-2 c =
     )
 
 returns-3 : tie.Need-returns-3
-unfolding decode usesOne
+unfolding decode uses_one
 returns-3 c =
     simp (
       ← c.known3.ensures,
@@ -108,7 +108,7 @@ returns-3 c =
     )
 
 returns-4 : tie.Need-returns-4
-unfolding decode usesOne
+unfolding decode uses_one
 returns-4 c =
     simp (
       ← c.known4.ensures,
@@ -116,7 +116,7 @@ returns-4 c =
     )
 
 returns-5 : tie.Need-returns-5
-unfolding decode usesOne
+unfolding decode uses_one
 returns-5 c =
     simp (
       ← c.known5.ensures,
@@ -124,7 +124,7 @@ returns-5 c =
     )
 
 returns-6 : tie.Need-returns-6
-unfolding decode usesOne
+unfolding decode uses_one
 returns-6 c =
     simp (
       ← c.known6.ensures,
@@ -132,7 +132,7 @@ returns-6 c =
     )
 
 returns-7 : tie.Need-returns-7
-unfolding decode usesOne
+unfolding decode uses_one
 returns-7 c =
     simp (
       ← c.known7.ensures,
@@ -140,7 +140,7 @@ returns-7 c =
     )
 
 returns-8 : tie.Need-returns-8
-unfolding decode usesOne
+unfolding decode uses_one
 returns-8 c =
     simp (
       ← c.known8.ensures,
@@ -148,7 +148,7 @@ returns-8 c =
     )
 
 returns-9 : tie.Need-returns-9
-unfolding decode usesOne
+unfolding decode uses_one
 returns-9 c =
     simp (
       ← c.known9.ensures,
@@ -156,7 +156,7 @@ returns-9 c =
     )
 
 returns-10 : tie.Need-returns-10
-unfolding decode usesOne
+unfolding decode uses_one
 returns-10 c =
     simp (
       ← c.known10.ensures,
@@ -164,7 +164,7 @@ returns-10 c =
     )
 
 returns-11 : tie.Need-returns-11
-unfolding decode usesOne
+unfolding decode uses_one
 returns-11 c =
     simp (
       ← c.known11.ensures,
@@ -172,7 +172,7 @@ returns-11 c =
     )
 
 returns-12 : tie.Need-returns-12
-unfolding decode usesOne
+unfolding decode uses_one
 returns-12 c =
     simp (
       ← c.known12.ensures,
@@ -180,7 +180,7 @@ returns-12 c =
     )
 
 returns-13 : tie.Need-returns-13
-unfolding decode usesOne
+unfolding decode uses_one
 returns-13 c =
     simp (
       ← c.known13.ensures,
@@ -188,7 +188,7 @@ returns-13 c =
     )
 
 returns-14 : tie.Need-returns-14
-unfolding decode usesOne
+unfolding decode uses_one
 returns-14 c =
     simp (
       ← c.known14.ensures,
@@ -196,7 +196,7 @@ returns-14 c =
     )
 
 returns-15 : tie.Need-returns-15
-unfolding decode usesOne
+unfolding decode uses_one
 returns-15 c =
     simp (
       ← c.known15.ensures,
@@ -204,7 +204,7 @@ returns-15 c =
     )
 
 returns-16 : tie.Need-returns-16
-unfolding decode usesOne
+unfolding decode uses_one
 returns-16 c =
     simp (
       ← c.known16.ensures,
@@ -212,7 +212,7 @@ returns-16 c =
     )
 
 returns-17 : tie.Need-returns-17
-unfolding decode usesOne
+unfolding decode uses_one
 returns-17 c =
     simp (
       ← c.known17.ensures,
@@ -220,7 +220,7 @@ returns-17 c =
     )
 
 returns-18 : tie.Need-returns-18
-unfolding decode usesOne
+unfolding decode uses_one
 returns-18 c =
     simp (
       ← c.known18.ensures,
@@ -228,7 +228,7 @@ returns-18 c =
     )
 
 returns-19 : tie.Need-returns-19
-unfolding decode usesOne
+unfolding decode uses_one
 returns-19 c =
     simp (
       ← c.known19.ensures,
@@ -236,7 +236,7 @@ returns-19 c =
     )
 
 returns-20 : tie.Need-returns-20
-unfolding decode usesOne
+unfolding decode uses_one
 returns-20 c =
     simp (
       ← c.known20.ensures,
@@ -244,7 +244,7 @@ returns-20 c =
     )
 
 returns-21 : tie.Need-returns-21
-unfolding decode usesOne
+unfolding decode uses_one
 returns-21 c =
     simp (
       ← c.known21.ensures,
@@ -252,7 +252,7 @@ returns-21 c =
     )
 
 returns-22 : tie.Need-returns-22
-unfolding decode usesOne
+unfolding decode uses_one
 returns-22 c =
     simp (
       ← c.known22.ensures,

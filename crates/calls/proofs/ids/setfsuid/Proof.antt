@@ -1,5 +1,5 @@
 -- `calls::ids::setfsuid` meets its contract. Assumes nothing.
-use Rattle.rules.specs.Ids.{setfsuidOn, setfsuidChanges}
+use Rattle.rules.specs.Ids.{setfsuid_on, setfsuid_changes}
 use Rattle.calls.proofs.ids.setfsuid.Statement.{statement}
 use Rattle.calls.proofs.ids.setfsuid.Tie as tie
 
@@ -7,7 +7,7 @@ one-of-three-requires : tie.Need-one-of-three-requires
 one-of-three-requires c κs = tt
 
 returns : tie.Need-returns
-unfolding setfsuidOn setfsuidChanges
+unfolding setfsuid_on setfsuid_changes
 returns c =
     simp (
       c.if1.true,
@@ -15,7 +15,7 @@ returns c =
     )
 
 returns-2 : tie.Need-returns-2
-unfolding setfsuidOn setfsuidChanges
+unfolding setfsuid_on setfsuid_changes
 returns-2 c =
     simp (
       c.if1.false,

@@ -1,5 +1,5 @@
 -- `calls::ids::setresuid` meets its contract. Assumes nothing.
-use Rattle.rules.specs.Ids.{setresuidOn, setresuidAllowed}
+use Rattle.rules.specs.Ids.{setresuid_on, setresuid_allowed}
 use Rattle.calls.proofs.ids.setresuid.Statement.{statement}
 use Rattle.calls.proofs.ids.setresuid.Tie as tie
 
@@ -16,7 +16,7 @@ one-of-three-requires-3 : tie.Need-one-of-three-requires-3
 one-of-three-requires-3 c κs = tt
 
 returns : tie.Need-returns
-unfolding setresuidOn setresuidAllowed
+unfolding setresuid_on setresuid_allowed
 returns c =
     simp (
       c.if1.true,
@@ -27,7 +27,7 @@ returns c =
     )
 
 returns-2 : tie.Need-returns-2
-unfolding setresuidOn setresuidAllowed
+unfolding setresuid_on setresuid_allowed
 returns-2 c =
     simp (
       c.if1.false,

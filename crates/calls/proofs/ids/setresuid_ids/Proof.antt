@@ -1,5 +1,5 @@
 -- `calls::ids::setresuid_ids` meets its contract. Assumes nothing.
-use Rattle.rules.specs.Ids.{setresuidIds}
+use Rattle.rules.specs.Ids.{setresuid_ids}
 use Rattle.calls.proofs.ids.setresuid_ids.Statement.{statement}
 use Rattle.calls.proofs.ids.setresuid_ids.Tie as tie
 
@@ -13,7 +13,7 @@ given-or-requires-3 : tie.Need-given-or-requires-3
 given-or-requires-3 c κs = tt
 
 returns : tie.Need-returns
-unfolding setresuidIds
+unfolding setresuid_ids
 returns c =
     simp (
       ← c.given-or3.ensures,

@@ -1,5 +1,5 @@
 -- `calls::ids::setreuid` meets its contract. Assumes nothing.
-use Rattle.rules.specs.Ids.{setreuidOn, setreuidAllowed}
+use Rattle.rules.specs.Ids.{setreuid_on, setreuid_allowed}
 use Rattle.calls.proofs.ids.setreuid.Statement.{statement}
 use Rattle.calls.proofs.ids.setreuid.Tie as tie
 
@@ -10,7 +10,7 @@ one-of-three-requires : tie.Need-one-of-three-requires
 one-of-three-requires c κs = tt
 
 returns : tie.Need-returns
-unfolding setreuidOn setreuidAllowed
+unfolding setreuid_on setreuid_allowed
 returns c =
     simp (
       c.if1.true,
@@ -19,7 +19,7 @@ returns c =
     )
 
 returns-2 : tie.Need-returns-2
-unfolding setreuidOn setreuidAllowed
+unfolding setreuid_on setreuid_allowed
 returns-2 c =
     simp (
       c.if1.false,

@@ -1,5 +1,5 @@
 -- `calls::ids::setreuid_ids` meets its contract. Assumes nothing.
-use Rattle.rules.specs.Ids.{setreuidIds}
+use Rattle.rules.specs.Ids.{setreuid_ids}
 use Rattle.calls.proofs.ids.setreuid_ids.Statement.{statement}
 use Rattle.calls.proofs.ids.setreuid_ids.Tie as tie
 
@@ -13,7 +13,7 @@ setreuid-saved-requires : tie.Need-setreuid-saved-requires
 setreuid-saved-requires c κs = tt
 
 returns : tie.Need-returns
-unfolding setreuidIds
+unfolding setreuid_ids
 returns c =
     simp (
       ← c.setreuid-saved.ensures,

@@ -1,5 +1,5 @@
 -- `calls::ids::setuid` meets its contract. Assumes nothing.
-use Rattle.rules.specs.Ids.{setuidOn, setuidAllowed}
+use Rattle.rules.specs.Ids.{setuid_on, setuid_allowed}
 use Rattle.calls.proofs.ids.setuid.Statement.{statement}
 use Rattle.calls.proofs.ids.setuid.Tie as tie
 
@@ -7,7 +7,7 @@ setuid-ids-requires : tie.Need-setuid-ids-requires
 setuid-ids-requires c κs = tt
 
 returns : tie.Need-returns
-unfolding setuidOn setuidAllowed
+unfolding setuid_on setuid_allowed
 returns c =
     simp (
       ← c.setuid-ids.ensures,
@@ -15,7 +15,7 @@ returns c =
     )
 
 returns-2 : tie.Need-returns-2
-unfolding setuidOn setuidAllowed
+unfolding setuid_on setuid_allowed
 returns-2 c = simp c.if1.false
 
 pub setuid-spec : {M : Type 1} → statement M

@@ -1,5 +1,5 @@
 -- `calls::launching::counted_set` meets its contract. Assumes nothing.
-use Rattle.rules.specs.Launching.{countedSet}
+use Rattle.rules.specs.Launching.{counted_set}
 use Rattle.calls.proofs.launching.counted_set.Statement.{statement}
 use Rattle.calls.proofs.launching.counted_set.Tie as tie
 
@@ -7,7 +7,7 @@ root-counts-requires : tie.Need-root-counts-requires
 root-counts-requires c κs = tt
 
 returns : tie.Need-returns
-unfolding countedSet
+unfolding counted_set
 returns c =
     simp (
       c.if1.true,
@@ -15,7 +15,7 @@ returns c =
     )
 
 returns-2 : tie.Need-returns-2
-unfolding countedSet
+unfolding counted_set
 returns-2 c =
     simp (
       c.if1.false,

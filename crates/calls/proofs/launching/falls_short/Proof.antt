@@ -1,5 +1,5 @@
 -- `calls::launching::falls_short` meets its contract. Assumes nothing.
-use Rattle.rules.specs.Launching.{fallsShort}
+use Rattle.rules.specs.Launching.{falls_short}
 use Rattle.calls.proofs.launching.falls_short.Statement.{statement}
 use Rattle.calls.proofs.launching.falls_short.Tie as tie
 
@@ -10,7 +10,7 @@ outside-requires : tie.Need-outside-requires
 outside-requires c κs = tt
 
 returns : tie.Need-returns
-unfolding fallsShort
+unfolding falls_short
 returns c =
     simp (
       ← c.before.outside.ensures,

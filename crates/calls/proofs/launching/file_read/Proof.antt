@@ -1,5 +1,5 @@
 -- `calls::launching::file_read` meets its contract. Assumes nothing.
-use Rattle.rules.specs.Launching.{fileRead, ignoresAttribute}
+use Rattle.rules.specs.Launching.{file_read, ignores_attribute}
 use Rattle.calls.proofs.launching.file_read.Statement.{statement}
 use Rattle.calls.proofs.launching.file_read.Tie as tie
 
@@ -7,7 +7,7 @@ ignores-set-id-requires : tie.Need-ignores-set-id-requires
 ignores-set-id-requires c κs = tt
 
 returns : tie.Need-returns
-unfolding fileRead ignoresAttribute
+unfolding file_read ignores_attribute
 returns c =
     simp (
       c.if1.true,
@@ -18,7 +18,7 @@ read-requires : tie.Need-read-requires
 read-requires c κs = tt
 
 returns-2 : tie.Need-returns-2
-unfolding fileRead ignoresAttribute
+unfolding file_read ignores_attribute
 returns-2 c =
     simp (
       ← c.read.ensures,

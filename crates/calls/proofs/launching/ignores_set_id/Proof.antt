@@ -1,11 +1,11 @@
 -- `calls::launching::ignores_set_id` meets its contract. Assumes nothing.
-use Rattle.rules.specs.Launching.{ignoresSetId}
+use Rattle.rules.specs.Launching.{ignores_set_id}
 use mathlib.Core.Path.{refl}
 use Rattle.calls.proofs.launching.ignores_set_id.Statement.{statement}
 use Rattle.calls.proofs.launching.ignores_set_id.Tie as tie
 
 returns : tie.Need-returns
-unfolding ignoresSetId
+unfolding ignores_set_id
 returns c = refl
 
 pub ignores-set-id-spec : {M : Type 1} → statement M

@@ -1,5 +1,5 @@
 -- `calls::launching::launched` meets its contract. Assumes nothing.
-use Rattle.rules.specs.Launching.{isPrivileged, launched}
+use Rattle.rules.specs.Launching.{is_privileged, launched}
 use Rattle.calls.proofs.launching.launched.Statement.{statement}
 use Rattle.calls.proofs.launching.launched.Tie as tie
 
@@ -34,7 +34,7 @@ difference-requires : tie.Need-difference-requires
 difference-requires c κs = tt
 
 returns : tie.Need-returns
-unfolding launched isPrivileged
+unfolding launched is_privileged
 returns c =
     simp (
       ← c.difference.ensures,

@@ -1,5 +1,5 @@
 -- `calls::launching::launched_ids` meets its contract. Assumes nothing.
-use Rattle.rules.specs.Launching.{launchedIds}
+use Rattle.rules.specs.Launching.{launched_ids}
 use Rattle.calls.proofs.launching.launched_ids.Statement.{statement}
 use Rattle.calls.proofs.launching.launched_ids.Tie as tie
 
@@ -7,7 +7,7 @@ effective-id-requires : tie.Need-effective-id-requires
 effective-id-requires c κs = tt
 
 returns : tie.Need-returns
-unfolding launchedIds
+unfolding launched_ids
 returns c = simp (← c.effective-id.ensures)
 
 pub launched-ids-spec : {M : Type 1} → statement M

@@ -1,5 +1,5 @@
 -- `calls::launching::launched_sets` meets its contract. Assumes nothing.
-use Rattle.rules.specs.Launching.{launchedSets}
+use Rattle.rules.specs.Launching.{launched_sets}
 use Rattle.calls.proofs.launching.launched_sets.Statement.{statement}
 use Rattle.calls.proofs.launching.launched_sets.Tie as tie
 
@@ -10,7 +10,7 @@ launched-effective-requires : tie.Need-launched-effective-requires
 launched-effective-requires c κs = tt
 
 returns : tie.Need-returns
-unfolding launchedSets
+unfolding launched_sets
 returns c =
     simp (
       ← c.launched-effective.ensures,

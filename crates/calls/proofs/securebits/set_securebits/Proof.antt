@@ -1,5 +1,5 @@
 -- `calls::securebits::set_securebits` meets its contract. Assumes nothing.
-use Rattle.rules.specs.Securebits.{setSecurebits, changesLocked}
+use Rattle.rules.specs.Securebits.{set_securebits, changes_locked}
 use borrow.Author.Tests.{eq-eqb, ne_eqb}
 use Rattle.calls.proofs.securebits.set_securebits.Statement.{statement}
 use Rattle.calls.proofs.securebits.set_securebits.Tie as tie
@@ -8,7 +8,7 @@ lacks-requires : tie.Need-lacks-requires
 lacks-requires c κs = tt
 
 returns : tie.Need-returns
-unfolding setSecurebits changesLocked
+unfolding set_securebits changes_locked
 returns c =
     simp (
       c.if1.true,
@@ -19,7 +19,7 @@ outside-requires : tie.Need-outside-requires
 outside-requires c κs = tt
 
 returns-2 : tie.Need-returns-2
-unfolding setSecurebits changesLocked
+unfolding set_securebits changes_locked
 returns-2 c =
     simp (
       c.if2.true,
@@ -29,7 +29,7 @@ returns-2 c =
     )
 
 returns-3 : tie.Need-returns-3
-unfolding setSecurebits changesLocked
+unfolding set_securebits changes_locked
 returns-3 c =
     simp (
       ne_eqb _ _ c.if3.true,
@@ -40,7 +40,7 @@ returns-3 c =
     )
 
 returns-4 : tie.Need-returns-4
-unfolding setSecurebits changesLocked
+unfolding set_securebits changes_locked
 returns-4 c =
     simp (
       eq-eqb _ _ c.if3.false,

@@ -1,5 +1,5 @@
 -- `calls::user_ids::root_left` meets its contract. Assumes nothing.
-use Rattle.rules.specs.Ids.{rootLeft}
+use Rattle.rules.specs.Ids.{root_left}
 use borrow.Author.Tests.{eq-eqb, ne_eqb}
 use Rattle.calls.proofs.user_ids.root_left.Statement.{statement}
 use Rattle.calls.proofs.user_ids.root_left.Tie as tie
@@ -11,7 +11,7 @@ one-of-three-requires-2 : tie.Need-one-of-three-requires-2
 one-of-three-requires-2 c κs = tt
 
 returns : tie.Need-returns
-unfolding rootLeft
+unfolding root_left
 returns c =
     simp (
       ne_eqb _ _ c.if2.true,
@@ -21,7 +21,7 @@ returns c =
     )
 
 returns-2 : tie.Need-returns-2
-unfolding rootLeft
+unfolding root_left
 returns-2 c =
     simp (
       eq-eqb _ _ c.if2.false,
@@ -31,7 +31,7 @@ returns-2 c =
     )
 
 returns-3 : tie.Need-returns-3
-unfolding rootLeft
+unfolding root_left
 returns-3 c =
     simp (
       c.if1.false,

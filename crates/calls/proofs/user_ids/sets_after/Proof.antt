@@ -1,11 +1,11 @@
 -- `calls::user_ids::sets_after` meets its contract. Assumes nothing.
-use Rattle.rules.specs.Ids.{setsAfter}
+use Rattle.rules.specs.Ids.{sets_after}
 use borrow.Author.Tests.{eq-eqb, ne_eqb}
 use Rattle.calls.proofs.user_ids.sets_after.Statement.{statement}
 use Rattle.calls.proofs.user_ids.sets_after.Tie as tie
 
 returns : tie.Need-returns
-unfolding setsAfter
+unfolding sets_after
 returns c = simp (ne_eqb _ _ c.if1.true)
 
 root-left-requires : tie.Need-root-left-requires
@@ -18,7 +18,7 @@ effective-taken-requires : tie.Need-effective-taken-requires
 effective-taken-requires c κs = tt
 
 returns-2 : tie.Need-returns-2
-unfolding setsAfter
+unfolding sets_after
 returns-2 c =
     simp (
       ← c.effective-taken.ensures,

@@ -1,11 +1,11 @@
 -- `calls::user_ids::sets_after_filesystem` meets its contract. Assumes nothing.
-use Rattle.rules.specs.Ids.{setsAfterFilesystem}
+use Rattle.rules.specs.Ids.{sets_after_filesystem}
 use borrow.Author.Tests.{eq-eqb, ne_eqb}
 use Rattle.calls.proofs.user_ids.sets_after_filesystem.Statement.{statement}
 use Rattle.calls.proofs.user_ids.sets_after_filesystem.Tie as tie
 
 returns : tie.Need-returns
-unfolding setsAfterFilesystem
+unfolding sets_after_filesystem
 returns c = simp (ne_eqb _ _ c.if1.true)
 
 filesystem-left-requires : tie.Need-filesystem-left-requires
@@ -15,7 +15,7 @@ filesystem-taken-requires : tie.Need-filesystem-taken-requires
 filesystem-taken-requires c κs = tt
 
 returns-2 : tie.Need-returns-2
-unfolding setsAfterFilesystem
+unfolding sets_after_filesystem
 returns-2 c =
     simp (
       ← c.filesystem-taken.ensures,

@@ -2,7 +2,7 @@
 use borrow.Author.Rules.{rules}
 use borrow.Author.Tests.{le-ltb}
 use Rattle.capabilities.specs.Sets.{single}
-use Rattle.capabilities.proofs.Masks.{single-code}
+use Rattle.capabilities.proofs.Masks.{single_code}
 use Rattle.capabilities.proofs.sets.single.Statement.{statement}
 use Rattle.capabilities.proofs.sets.single.Tie as tie
 
@@ -10,7 +10,7 @@ shl-result : tie.Need-overflow-shl-result
 shl-result c = search rules
 
 returns : tie.Need-returns
-returns c = single-code c.before.args.n c.if1.true
+returns c = single_code c.before.args.n c.if1.true
 
 returns-2 : tie.Need-returns-2
 unfolding single

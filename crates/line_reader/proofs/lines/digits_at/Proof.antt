@@ -1,14 +1,14 @@
 -- `line_reader::lines::digits_at` meets its contract. Assumes nothing.
 use Rattle.std.proofs.Common.{◌≡◌, ◌+◌, ◌-◌, ◌≤◌, length, drop, sym, refl, ap, arith, rules, le-ltb, lt-ltb, eq-eqb, ne_eqb, le-leb}
-use Rattle.format.specs.Line.{readDigits}
+use Rattle.format.specs.Line.{read_digits}
 use Rattle.line_reader.specs.declared.lines.Line.TheVariants.{Is}
-use Rattle.line_reader.proofs.LineLaws.{position, digits_step, digits-end}
+use Rattle.line_reader.proofs.LineLaws.{position, digits_step, digits_end}
 use borrow.Author.Tests.{lt-leb}
 use Rattle.line_reader.proofs.lines.digits_at.Statement.{statement}
 use Rattle.line_reader.proofs.lines.digits_at.Tie as tie
 
 abbrev invariant-loop : tie.invariant-loop
-invariant-loop text at largest first i₀ v₀ i v = (readDigits largest first (drop at text) ≡ readDigits largest v (drop i text)) × (v ≤ largest)
+invariant-loop text at largest first i₀ v₀ i v = (read_digits largest first (drop at text) ≡ read_digits largest v (drop i text)) × (v ≤ largest)
 
 abbrev decreases-loop : tie.decreases-loop
 decreases-loop text at largest first i₀ v₀ i v = length text - i
@@ -73,7 +73,7 @@ loop-again c =
     (rw (l.loop.invariant.0, digits_step a.largest l.loop.i t (omega arith) l.loop.v, ne_eqb _ _ c.before.before.before.before.if1.false, ne_eqb _ _ c.before.before.before.if2.false, ← c.before.before.decimal_digit.ensures, lt-ltb _ _ c.before.if3.false, le-leb _ _ c.if4.false), search rules)
 
 returns-5 : tie.Need-returns-5 invariant-loop decreases-loop
-returns-5 c = let a = c.before.before.before.args in rw (c.before.loop.invariant.0, digits-end a.largest c.before.loop.v a.text.now c.before.loop.i (omega arith))
+returns-5 c = let a = c.before.before.before.args in rw (c.before.loop.invariant.0, digits_end a.largest c.before.loop.v a.text.now c.before.loop.i (omega arith))
 
 pub digits-at-spec : {M : Type 1} → statement M
 digits-at-spec =

@@ -1,12 +1,12 @@
 -- `line_reader::lines::pairs_at` meets its contract. Assumes nothing.
 use Rattle.std.proofs.Common.{◌≡◌, ◌+◌, ◌-◌, ◌≤◌, [], length, take, drop, replicate, refl, add-one, arith, length-set, take-suc-set, rules, le-ltb, lt-ltb, ne_eqb}
-use Rattle.hex_tables.specs.Tables.{readPairsBy}
-use Rattle.line_reader.proofs.Pairs.{pairs-newline, pairs-full, pairs-no-digit, pairs-one, pairs-two, pairs_end, zeros-left, attribute-found}
+use Rattle.hex_tables.specs.Tables.{read_pairs_by}
+use Rattle.line_reader.proofs.Pairs.{pairs_newline, pairs_full, pairs_no_digit, pairs_one, pairs_two, pairs_end, zeros_left, attribute_found}
 use Rattle.line_reader.proofs.lines.pairs_at.Statement.{statement}
 use Rattle.line_reader.proofs.lines.pairs_at.Tie as tie
 
 abbrev invariant-loop : tie.invariant-loop
-invariant-loop text start table bytes₀ i₀ n₀ bytes i n = (readPairsBy table 24 [] (drop start text) ≡ readPairsBy table (24 - n) (take n bytes) (drop i text)) × (n ≤ 24) × (length bytes ≡ 24) × (drop n bytes ≡ replicate (24 - n) 0)
+invariant-loop text start table bytes₀ i₀ n₀ bytes i n = (read_pairs_by table 24 [] (drop start text) ≡ read_pairs_by table (24 - n) (take n bytes) (drop i text)) × (n ≤ 24) × (length bytes ≡ 24) × (drop n bytes ≡ replicate (24 - n) 0)
 
 abbrev decreases-loop : tie.decreases-loop
 decreases-loop text start table bytes₀ i₀ n₀ bytes i n = length text - i
@@ -27,8 +27,8 @@ returns c =
     let table = c.before.before.before.before.before.args.table.now in
     let h = c.before.before.loop-test.true in
     let bs = take l.n l.bytes in
-    rw (l.invariant.0, pairs-newline table l.i t h (24 - l.n) bs c.if1.true)
-    (attribute-found t l.bytes l.n (l.i + 1) (omega arith) l.invariant.1 l.invariant.2 l.invariant.3)
+    rw (l.invariant.0, pairs_newline table l.i t h (24 - l.n) bs c.if1.true)
+    (attribute_found t l.bytes l.n (l.i + 1) (omega arith) l.invariant.1 l.invariant.2 l.invariant.3)
 
 no-bytes-requires : tie.Need-no-bytes-requires invariant-loop decreases-loop
 no-bytes-requires c κs = tt
@@ -40,7 +40,7 @@ returns-2 c =
     let table = c.before.before.before.before.before.before.before.args.table.now in
     let h = c.before.before.before.before.loop-test.true in
     let bs = take l.n l.bytes in
-    rw (l.invariant.0, pairs-full table l.i t h (24 - l.n) bs (omega (arith, c.before.if2.true)) (ne_eqb _ _ c.before.before.if1.false))
+    rw (l.invariant.0, pairs_full table l.i t h (24 - l.n) bs (omega (arith, c.before.if2.true)) (ne_eqb _ _ c.before.before.if1.false))
     c.no_bytes.ensures
 
 hex-digit-requires : tie.Need-hex-digit-requires invariant-loop decreases-loop
@@ -56,7 +56,7 @@ returns-3 c =
     let table = c.before.before.before.before.before.before.before.before.before.args.table.now in
     let h = c.before.before.before.before.before.before.loop-test.true in
     let bs = take l.n l.bytes in
-    rw (l.invariant.0, pairs-no-digit table l.i t h (24 - l.n) (24 - (l.n + 1)) bs (omega arith) (ne_eqb _ _ c.before.before.before.before.if1.false) (rw (← c.before.before.hex-digit.ensures) (le-ltb _ _ c.before.if3.true)))
+    rw (l.invariant.0, pairs_no_digit table l.i t h (24 - l.n) (24 - (l.n + 1)) bs (omega arith) (ne_eqb _ _ c.before.before.before.before.if1.false) (rw (← c.before.before.hex-digit.ensures) (le-ltb _ _ c.before.if3.true)))
     c.no-bytes2.ensures
 
 add-j : tie.Need-overflow-add-j invariant-loop decreases-loop
@@ -72,7 +72,7 @@ returns-4 c =
     let table = c.before.before.before.before.before.before.before.before.before.before.args.table.now in
     let h = c.before.before.before.before.before.before.before.loop-test.true in
     let bs = take l.n l.bytes in
-    rw (l.invariant.0, pairs-one table l.i t h (24 - l.n) (24 - (l.n + 1)) bs (omega arith) c.before.if4.true (ne_eqb _ _ c.before.before.before.before.before.if1.false))
+    rw (l.invariant.0, pairs_one table l.i t h (24 - l.n) (24 - (l.n + 1)) bs (omega arith) c.before.if4.true (ne_eqb _ _ c.before.before.before.before.before.if1.false))
     c.no-bytes3.ensures
 
 shared-slice-read-hex-digit : tie.Need-shared-slice-read-hex-digit invariant-loop decreases-loop
@@ -93,7 +93,7 @@ returns-5 c =
     let bs = take l.n l.bytes in
     rw (
       l.invariant.0,
-      pairs-two table l.i t h (24 - l.n) (24 - (l.n + 1)) (l.i + 1) bs (omega arith) refl c.before.before.before.before.if4.false (ne_eqb _ _ c.before.before.before.before.before.before.before.before.if1.false),
+      pairs_two table l.i t h (24 - l.n) (24 - (l.n + 1)) (l.i + 1) bs (omega arith) refl c.before.before.before.before.if4.false (ne_eqb _ _ c.before.before.before.before.before.before.before.before.if1.false),
       ← c.before.before.before.before.before.before.hex-digit.ensures,
       ← c.before.before.hex-digit2.ensures,
       lt-ltb _ _ c.before.before.before.before.before.if3.false,
@@ -131,7 +131,7 @@ loop-again c =
     let bs = take l.n l.bytes in (
       rw (
         l.invariant.0,
-        pairs-two table l.i t h (24 - l.n) (24 - (l.n + 1)) (l.i + 1) bs (omega arith) refl c.before.before.before.if4.false (ne_eqb _ _ c.before.before.before.before.before.before.before.if1.false),
+        pairs_two table l.i t h (24 - l.n) (24 - (l.n + 1)) (l.i + 1) bs (omega arith) refl c.before.before.before.if4.false (ne_eqb _ _ c.before.before.before.before.before.before.before.if1.false),
         ← c.before.before.before.before.before.hex-digit.ensures,
         ← c.before.hex-digit2.ensures,
         lt-ltb _ _ c.before.before.before.before.if3.false,
@@ -140,7 +140,7 @@ loop-again c =
           (rw (add-one l.n, take-suc-set l.bytes l.n _ (omega (arith, l.invariant.2, l.invariant.1, c.before.before.before.before.before.before.if2.false)))),
       omega arith,
       simp length-set l.invariant.2,
-      zeros-left l.bytes l.n (24 - l.n) (24 - (l.n + 1)) _ (omega (arith, l.invariant.1, c.before.before.before.before.before.before.if2.false)) l.invariant.3,
+      zeros_left l.bytes l.n (24 - l.n) (24 - (l.n + 1)) _ (omega (arith, l.invariant.1, c.before.before.before.before.before.before.if2.false)) l.invariant.3,
     )
 
 no-bytes-requires-5 : tie.Need-no-bytes-requires-5 invariant-loop decreases-loop

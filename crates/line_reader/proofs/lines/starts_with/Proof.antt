@@ -1,6 +1,6 @@
 -- `line_reader::lines::starts_with` meets its contract. Assumes nothing.
 use Rattle.std.proofs.Common.{◌≡◌, ◌+◌, ◌-◌, ◌≤◌, drop, sym, add-zero, arith, rules, eq-eqb, ne_eqb}
-use Rattle.format.proofs.Keys.{starts-step, starts-end}
+use Rattle.format.proofs.Keys.{starts_step, starts_end}
 use Rattle.format.specs.Line.{starts_with}
 use Rattle.line_reader.proofs.lines.starts_with.Statement.{statement}
 use Rattle.line_reader.proofs.lines.starts_with.Tie as tie
@@ -29,7 +29,7 @@ returns c =
     let a = l.before.args in
     rw (
       l.loop.invariant.0,
-      starts-step a.key.now a.text.now l.loop.k (a.at + l.loop.k) (a.at + (l.loop.k + 1)) (omega arith) (omega arith) (omega arith),
+      starts_step a.key.now a.text.now l.loop.k (a.at + l.loop.k) (a.at + (l.loop.k + 1)) (omega arith) (omega arith) (omega arith),
       ne_eqb _ _ c.if1.true,
     )
 
@@ -45,14 +45,14 @@ loop-again c =
     let a = l.before.args in (
       rw (
         l.loop.invariant.0,
-        starts-step a.key.now a.text.now l.loop.k (a.at + l.loop.k) (a.at + (l.loop.k + 1)) (omega arith) (omega arith) (omega arith),
+        starts_step a.key.now a.text.now l.loop.k (a.at + l.loop.k) (a.at + (l.loop.k + 1)) (omega arith) (omega arith) (omega arith),
         eq-eqb _ _ c.if1.false,
       ),
       search rules,
     )
 
 returns-2 : tie.Need-returns-2 invariant-loop decreases-loop
-returns-2 c = rw c.before.loop.invariant.0 (sym (starts-end c.before.before.args.key.now _ c.before.loop.k (omega arith)))
+returns-2 c = rw c.before.loop.invariant.0 (sym (starts_end c.before.before.args.key.now _ c.before.loop.k (omega arith)))
 
 pub starts-with-spec : {M : Type 1} → statement M
 starts-with-spec =

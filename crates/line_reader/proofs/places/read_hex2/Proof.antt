@@ -1,6 +1,6 @@
 -- `line_reader::places::read_hex2` meets its contract. Assumes nothing.
 use Rattle.std.proofs.Common.{sym, ◌∙◌, rules}
-use Rattle.line_reader.proofs.Answers.{number_by, number-there}
+use Rattle.line_reader.proofs.Answers.{number_by, number_there}
 use Rattle.line_reader.proofs.places.read_hex2.Statement.{statement}
 use Rattle.line_reader.proofs.places.read_hex2.Tie as tie
 
@@ -14,7 +14,7 @@ onward-requires : tie.Need-onward-requires
 onward-requires c κs = tt
 
 returns-2 : tie.Need-returns-2
-returns-2 c = c.onward.ensures ∙ number-there _ _ _ _ _ c.before.before.if1.false c.before.hex-line.ensures
+returns-2 c = c.onward.ensures ∙ number_there _ _ _ _ _ c.before.before.if1.false c.before.hex-line.ensures
 
 pub read-hex2-spec : {M : Type 1} → statement M
 read-hex2-spec = tie.close (tie.spec returns hex-line-requires onward-requires returns-2)

@@ -6,7 +6,7 @@ use native.Mathlib.Nat.{add-zero}
 use borrow.Author.Rules.{rules}
 use lib.ListN.{length, drop, length-set}
 use lib.Seq.{sets}
-use Rattle.line_writer.proofs.LineLaws.{put_byte, put-no-byte}
+use Rattle.line_writer.proofs.LineLaws.{put_byte, put_no_byte}
 use Rattle.line_writer.proofs.lines.put_bytes.Statement.{statement}
 use Rattle.line_writer.proofs.lines.put_bytes.Tie as tie
 
@@ -47,7 +47,7 @@ same_length : tie.Need-same-length invariant-loop decreases-loop
 same_length c = c.before.loop.invariant.2
 
 returns : tie.Need-returns invariant-loop decreases-loop
-returns c = (refl, sym (c.before.loop.invariant.0 ∙ put-no-byte c.before.before.args.src.now _ c.before.loop.k _ (omega arith)))
+returns c = (refl, sym (c.before.loop.invariant.0 ∙ put_no_byte c.before.before.args.src.now _ c.before.loop.k _ (omega arith)))
 
 pub put-bytes-spec : {M : Type 1} → statement M
 put-bytes-spec =

@@ -2,9 +2,9 @@
 use mathlib.Core.Path.{◌∙◌}
 use native.Mathlib.Omega.{arith}
 use lib.ListN.{length-set}
-use Rattle.hex_tables.specs.Tables.{hexTextBy}
-use Rattle.hex_tables.proofs.Lengths.{length-hex-by}
-use Rattle.line_writer.proofs.LineLaws.{keyed-refused, keyed-written}
+use Rattle.hex_tables.specs.Tables.{hex_text_by}
+use Rattle.hex_tables.proofs.Lengths.{length_hex_by}
+use Rattle.line_writer.proofs.LineLaws.{keyed_refused, keyed_written}
 use borrow.Author.Rules.{rules}
 use Rattle.line_writer.proofs.lines.write_hex.Statement.{statement}
 use Rattle.line_writer.proofs.lines.write_hex.Tie as tie
@@ -18,14 +18,14 @@ add-size-2 c = search rules
 returns : tie.Need-returns
 returns c =
     let a = c.before.before.before.args in
-    let value = hexTextBy a.table.now a.n a.v in
-    keyed-refused a.key.now value a.buf.now a.at (omega (arith, length-hex-by a.table.now a.n a.v))
+    let value = hex_text_by a.table.now a.n a.v in
+    keyed_refused a.key.now value a.buf.now a.at (omega (arith, length_hex_by a.table.now a.n a.v))
 
 returns-2 : tie.Need-returns-2
 returns-2 c =
     let a = c.before.before.before.before.args in
-    let value = hexTextBy a.table.now a.n a.v in
-    keyed-refused a.key.now value a.buf.now a.at (omega (arith, length-hex-by a.table.now a.n a.v))
+    let value = hex_text_by a.table.now a.n a.v in
+    keyed_refused a.key.now value a.buf.now a.at (omega (arith, length_hex_by a.table.now a.n a.v))
 
 put-bytes-requires : tie.Need-put-bytes-requires
 put-bytes-requires c κs = search rules
@@ -45,10 +45,10 @@ same_length c = simp length-set (c.before.before.put-hex.auto.0 ∙ c.before.bef
 returns-3 : tie.Need-returns-3
 returns-3 c =
     let a = c.before.before.before.before.before.before.before.before.before.before.before.before.args in
-    let value = hexTextBy a.table.now a.n a.v in
+    let value = hex_text_by a.table.now a.n a.v in
     let pb = c.before.before.before.before.before.before.put-bytes.ensures in
     let pv = c.before.before.put-hex.ensures in
-    rw (pv.1, pb.1) (keyed-written a.key.now value a.buf.now a.at _ _ pb.0 (omega (arith, pv.0, length-hex-by a.table.now a.n a.v)) (omega (arith, length-hex-by a.table.now a.n a.v)))
+    rw (pv.1, pb.1) (keyed_written a.key.now value a.buf.now a.at _ _ pb.0 (omega (arith, pv.0, length_hex_by a.table.now a.n a.v)) (omega (arith, length_hex_by a.table.now a.n a.v)))
 
 pub write-hex-spec : {M : Type 1} → statement M
 write-hex-spec =

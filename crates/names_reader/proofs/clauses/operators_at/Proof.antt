@@ -11,13 +11,13 @@ use borrow.Author.Rules.{rules}
 use Rattle.names.specs.declared.Sets.{Sets}
 use Rattle.names.specs.Grammar.{flag, blank, dash, equals}
 use Rattle.names.specs.Reading.{operated, gap, go}
-use Rattle.names_reader.specs.Inside.{readAt, operates}
-use Rattle.names_reader.proofs.Steps.{not-true, not-false, read-go, read-stuck, read-end, operated-flag, operated-stuck, operated-blank, operated-operator, operator-begun, operator-stuck}
+use Rattle.names_reader.specs.Inside.{read_at, operates}
+use Rattle.names_reader.proofs.Steps.{not_true, not_false, read_go, read_stuck, read_end, operated_flag, operated_stuck, operated_blank, operated_operator, operator_begun, operator_stuck}
 use Rattle.names_reader.proofs.clauses.operators_at.Statement.{statement}
 use Rattle.names_reader.proofs.clauses.operators_at.Tie as tie
 
 abbrev invariant-loop : tie.invariant-loop
-invariant-loop text at c i₀ gives₀ ends₀ sets₀ i gives ends sets = (readAt text at (operated true true c sets₀) ≡ readAt text i (operated gives ends c sets)) × (at ≤ i)
+invariant-loop text at c i₀ gives₀ ends₀ sets₀ i gives ends sets = (read_at text at (operated true true c sets₀) ≡ read_at text i (operated gives ends c sets)) × (at ≤ i)
 
 abbrev decreases-loop : tie.decreases-loop
 decreases-loop text at c i₀ gives₀ ends₀ sets₀ i gives ends sets = length text - i
@@ -49,8 +49,8 @@ loop-again c =
     let h = c.before.before.before.before.loop-test.true in
     let f : flag (get_or t l.loop.i 0) ≡ true = sym c.before.before.is-flag.ensures ∙ c.before.if1.true in (
       l.loop.invariant.0
-          ∙ read-go t l.loop.i x _ h
-          (operated-flag l.loop.gives l.loop.ends a.c l.loop.sets (get_or t l.loop.i 0) f
+          ∙ read_go t l.loop.i x _ h
+          (operated_flag l.loop.gives l.loop.ends a.c l.loop.sets (get_or t l.loop.i 0) f
           ∙ ap (λ (s : Sets). go (operated l.loop.gives true a.c s)) (sym c.flagged.ensures)),
       omega (arith, l.loop.invariant.1),
     )
@@ -63,7 +63,7 @@ returns c =
     let x = operated l.loop.gives l.loop.ends a.c l.loop.sets in
     let h = c.before.before.before.before.loop-test.true in
     let f : flag (get_or t l.loop.i 0) ≡ false = sym c.before.before.is-flag.ensures ∙ c.before.if1.false in (
-      sym (l.loop.invariant.0 ∙ read-stuck t l.loop.i x h (operated-stuck l.loop.gives l.loop.ends a.c l.loop.sets (get_or t l.loop.i 0) f (not-true _ c.if2.true))),
+      sym (l.loop.invariant.0 ∙ read_stuck t l.loop.i x h (operated_stuck l.loop.gives l.loop.ends a.c l.loop.sets (get_or t l.loop.i 0) f (not_true _ c.if2.true))),
       tt,
     )
 
@@ -82,7 +82,7 @@ returns-2 c =
     let h = c.before.before.before.before.before.before.loop-test.true in
     let f : flag (get_or t l.loop.i 0) ≡ false = sym c.before.before.before.before.is-flag.ensures ∙ c.before.before.before.if1.false in
     let k : blank (get_or t l.loop.i 0) ≡ true = sym c.before.is-blank.ensures ∙ c.if3.true in (
-      sym (l.loop.invariant.0 ∙ read-go t l.loop.i x _ h (operated-blank l.loop.gives l.loop.ends a.c l.loop.sets (get_or t l.loop.i 0) f (not-false _ c.before.before.if2.false) k)),
+      sym (l.loop.invariant.0 ∙ read_go t l.loop.i x _ h (operated_blank l.loop.gives l.loop.ends a.c l.loop.sets (get_or t l.loop.i 0) f (not_false _ c.before.before.if2.false) k)),
       λ g. omega (arith, l.loop.invariant.1),
     )
 
@@ -99,10 +99,10 @@ returns-3 c =
     let b = get_or t l.loop.i 0 in
     let f : flag b ≡ false = sym c.before.before.before.before.before.before.is-flag.ensures ∙ c.before.before.before.before.before.if1.false in
     let k : blank b ≡ false = sym c.before.before.before.is-blank.ensures ∙ c.before.before.if3.false in
-    let n : operates b ≡ false = sym c.before.is-operator.ensures ∙ not-true _ c.if4.true in (
+    let n : operates b ≡ false = sym c.before.is-operator.ensures ∙ not_true _ c.if4.true in (
       sym (l.loop.invariant.0
-          ∙ read-stuck t l.loop.i x h
-          (operated-operator l.loop.gives l.loop.ends a.c l.loop.sets b f (not-false _ c.before.before.before.before.if2.false) k ∙ operator-stuck a.c l.loop.sets b n)),
+          ∙ read_stuck t l.loop.i x h
+          (operated_operator l.loop.gives l.loop.ends a.c l.loop.sets b f (not_false _ c.before.before.before.before.if2.false) k ∙ operator_stuck a.c l.loop.sets b n)),
       tt,
     )
 
@@ -125,11 +125,11 @@ loop-again-2 c =
     let b = get_or t l.loop.i 0 in
     let f : flag b ≡ false = sym c.before.before.before.before.before.before.before.is-flag.ensures ∙ c.before.before.before.before.before.before.if1.false in
     let k : blank b ≡ false = sym c.before.before.before.before.is-blank.ensures ∙ c.before.before.before.if3.false in
-    let n : operates b ≡ true = sym c.before.before.is-operator.ensures ∙ not-false _ c.before.if4.false in (
+    let n : operates b ≡ true = sym c.before.before.is-operator.ensures ∙ not_false _ c.before.if4.false in (
       l.loop.invariant.0
-          ∙ read-go t l.loop.i x _ h
-          (operated-operator l.loop.gives l.loop.ends a.c l.loop.sets b f (not-false _ c.before.before.before.before.before.if2.false) k
-          ∙ operator-begun a.c l.loop.sets b n
+          ∙ read_go t l.loop.i x _ h
+          (operated_operator l.loop.gives l.loop.ends a.c l.loop.sets b f (not_false _ c.before.before.before.before.before.if2.false) k
+          ∙ operator_begun a.c l.loop.sets b n
           ∙ ap (λ (s : Sets). go (operated (not (eqb b dash)) (eqb b equals) a.c s)) (sym c.begun.ensures)),
       omega (arith, l.loop.invariant.1),
     )
@@ -141,9 +141,9 @@ returns-4 c =
     let t = a.text.now in
     let e : l.loop.ends ≡ true = c.if5.true in
     let h = c.before.loop-test.false in (
-      read-end t l.loop.i (gap l.loop.sets) (omega arith)
-          ∙ sym (l.loop.invariant.0 ∙ ap (λ (q : Bool). readAt t l.loop.i (operated l.loop.gives q a.c l.loop.sets)) e
-          ∙ read-end t l.loop.i (operated l.loop.gives true a.c l.loop.sets) (omega arith)),
+      read_end t l.loop.i (gap l.loop.sets) (omega arith)
+          ∙ sym (l.loop.invariant.0 ∙ ap (λ (q : Bool). read_at t l.loop.i (operated l.loop.gives q a.c l.loop.sets)) e
+          ∙ read_end t l.loop.i (operated l.loop.gives true a.c l.loop.sets) (omega arith)),
       λ g. omega (arith, l.loop.invariant.1),
     )
 
@@ -155,8 +155,8 @@ returns-5 c =
     let e : l.loop.ends ≡ false = c.if5.false in
     let h = c.before.loop-test.false in (
       ap Malformed (sym (add-zero l.loop.i))
-          ∙ sym (l.loop.invariant.0 ∙ ap (λ (q : Bool). readAt t l.loop.i (operated l.loop.gives q a.c l.loop.sets)) e
-          ∙ read-end t l.loop.i (operated l.loop.gives false a.c l.loop.sets) (omega arith)),
+          ∙ sym (l.loop.invariant.0 ∙ ap (λ (q : Bool). read_at t l.loop.i (operated l.loop.gives q a.c l.loop.sets)) e
+          ∙ read_end t l.loop.i (operated l.loop.gives false a.c l.loop.sets) (omega arith)),
       tt,
     )
 

@@ -9,7 +9,7 @@ use Rattle.names_reader.specs.declared.Subject.{Subject}
 use Rattle.names_reader.specs.declared.Subject.TheVariants.{Of}
 use Rattle.names_reader.specs.declared.Subject.TheVariants as SV
 use Rattle.names_reader.specs.Inside.{NamesTold, NameTold, NameEnd}
-use Rattle.names_reader.proofs.Found.{names-operator, names-stuck, names-end, names-missing, names-next}
+use Rattle.names_reader.proofs.Found.{names_operator, names_stuck, names_end, names_missing, names_next}
 use Rattle.names_reader.proofs.subjects.names_at.Statement.{statement}
 use Rattle.names_reader.proofs.subjects.names_at.Tie as tie
 
@@ -33,13 +33,13 @@ returns c =
     let l = c.before.before.before.before in
     let t = l.before.before.before.before.args.text.now in
     let h = c.before.before.before.loop-test.true in
-    (l.loop.invariant.0 (Of l.loop.all l.loop.i) (names-operator t l.loop.i l.loop.all h (sym c.before.is-operator.ensures ∙ c.if1.true)), (l.loop.invariant.1, h))
+    (l.loop.invariant.0 (Of l.loop.all l.loop.i) (names_operator t l.loop.i l.loop.all h (sym c.before.is-operator.ensures ∙ c.if1.true)), (l.loop.invariant.1, h))
 
 returns-2 : tie.Need-returns-2 invariant-loop decreases-loop
 returns-2 c =
     let l = c.before.before.before.before.before in
     let t = l.before.before.before.before.args.text.now in
-    (l.loop.invariant.0 (SV.Missing l.loop.i) (names-stuck t l.loop.i l.loop.all c.before.before.before.before.loop-test.true (sym c.before.before.is-operator.ensures ∙ c.before.if1.false) c.if2.true), tt)
+    (l.loop.invariant.0 (SV.Missing l.loop.i) (names_stuck t l.loop.i l.loop.all c.before.before.before.before.loop-test.true (sym c.before.before.is-operator.ensures ∙ c.before.if1.false) c.if2.true), tt)
 
 add-name-at : tie.Need-overflow-add-name-at invariant-loop decreases-loop
 add-name-at c = search rules
@@ -57,7 +57,7 @@ returns-3 c =
     let l = c.before.before.before.before.before.before.before.before.before in
     let t = l.before.before.before.before.args.text.now in
     let q = c.before.place.given.1 in (
-      l.loop.invariant.0 (SV.Missing c.before.place.given.0.0) (names-missing t l.loop.i l.loop.all c.before.place.given.0.0 c.before.before.before.before.before.before.before.before.loop-test.true c.before.before.before.before.if2.false
+      l.loop.invariant.0 (SV.Missing c.before.place.given.0.0) (names_missing t l.loop.i l.loop.all c.before.place.given.0.0 c.before.before.before.before.before.before.before.before.loop-test.true c.before.before.before.before.if2.false
           (rw q at c.before.before.before.name-at.ensures.0)),
       tt,
     )
@@ -83,7 +83,7 @@ loop-again c =
     let next = c.before.before.number.given.0.1.0 in
     let e : NameEnd (Is row next) (l.loop.i + 1) t = rw q at c.before.before.before.before.name-at.ensures.1 in
     let f : NameTold (Is row next) t (l.loop.i + 1) = rw q at c.before.before.before.before.name-at.ensures.0 in (
-      λ r h. l.loop.invariant.0 r (names-next t l.loop.i l.loop.all row next c.single.result c.before.before.before.before.before.before.before.before.before.loop-test.true c.before.before.before.before.before.if2.false f c.single.ensures r h),
+      λ r h. l.loop.invariant.0 r (names_next t l.loop.i l.loop.all row next c.single.result c.before.before.before.before.before.before.before.before.before.loop-test.true c.before.before.before.before.before.if2.false f c.single.ensures r h),
       omega (arith, e, l.loop.invariant.1),
     )
 
@@ -92,7 +92,7 @@ returns-4 c =
     let l = c.before in
     let t = l.before.before.before.before.args.text.now in
     let h = c.loop-test.false in
-    (l.loop.invariant.0 (SV.Missing l.loop.i) (names-end t l.loop.i l.loop.all (omega arith)), tt)
+    (l.loop.invariant.0 (SV.Missing l.loop.i) (names_end t l.loop.i l.loop.all (omega arith)), tt)
 
 pub names-at-spec : {M : Type 1} → statement M
 names-at-spec = tie.close (tie.spec invariant-loop decreases-loop loop-holds shared-slice-read-b is-operator-requires returns returns-2 add-name-at name-at-requires enum-known-place returns-3 enum-known-number single-requires loop-less loop-again returns-4)

@@ -11,8 +11,8 @@ use Rattle.names.specs.Grammar.{names}
 use Rattle.names.specs.Reading.{gap, operated, word, every}
 use Rattle.names_reader.specs.declared.Name.TheVariants.{Is, Missing}
 use Rattle.names_reader.specs.Inside.{NameTold, NameEnd}
-use Rattle.names_reader.proofs.Steps.{read_same, gap-put, gap-all, gap-name}
-use Rattle.names_reader.proofs.Found.{subject-end}
+use Rattle.names_reader.proofs.Steps.{read_same, gap_put, gap_all, gap_name}
+use Rattle.names_reader.proofs.Found.{subject_end}
 use Rattle.names_reader.proofs.subjects.subject_at.Statement.{statement}
 use Rattle.names_reader.proofs.subjects.subject_at.Tie as tie
 
@@ -24,7 +24,7 @@ returns c =
     let p = c.before.before.before.before.before in
     let t = p.args.text.now in
     let i = p.args.at in
-    (λ s. sym (read_same t i (gap s) (operated true true full s) p.requires.0 (gap-put s (get_or t i 0) c.if1.true)), (omega arith, p.requires.0))
+    (λ s. sym (read_same t i (gap s) (operated true true full s) p.requires.0 (gap_put s (get_or t i 0) c.if1.true)), (omega arith, p.requires.0))
 
 lower-requires : tie.Need-lower-requires
 lower-requires c κs = tt
@@ -38,7 +38,7 @@ returns-2 c =
     let t = p.args.text.now in
     let i = p.args.at in (
       λ s. c.all-at.ensures.0 s
-          ∙ sym (read_same t i (gap s) (word (every ∷ []) 0 s) p.requires.0 (gap-all s (get_or t i 0) p.requires.1 c.before.before.before.if1.false (sym c.before.before.lower.ensures ∙ c.before.if2.true))),
+          ∙ sym (read_same t i (gap s) (word (every ∷ []) 0 s) p.requires.0 (gap_all s (get_or t i 0) p.requires.1 c.before.before.before.if1.false (sym c.before.before.lower.ensures ∙ c.before.if2.true))),
       c.all-at.ensures.1,
     )
 
@@ -65,7 +65,7 @@ returns-3 c =
     let q = c.before.place.given.1 in
     let f : NameTold (Missing c.before.place.given.0.0) t i = rw q at c.before.before.before.name-at.ensures.0 in (
       λ s. f 0 s
-          ∙ sym (read_same t i (gap s) (word names 0 s) p.requires.0 (gap-name s (get_or t i 0) p.requires.1 c.before.before.before.before.before.before.if1.false (λ z. c.before.before.before.before.if2.false (c.before.before.before.before.before.lower.ensures ∙ z)))),
+          ∙ sym (read_same t i (gap s) (word names 0 s) p.requires.0 (gap_name s (get_or t i 0) p.requires.1 c.before.before.before.before.before.before.if1.false (λ z. c.before.before.before.before.if2.false (c.before.before.before.before.before.lower.ensures ∙ z)))),
       tt,
     )
 
@@ -80,8 +80,8 @@ returns-4 c =
     let f : NameTold (Is row next) t i = rw q at c.before.before.before.before.before.name-at.ensures.0 in
     let e : NameEnd (Is row next) i t = rw q at c.before.before.before.before.before.name-at.ensures.1 in (
       λ s. c.names_at.ensures.0 s 0 (single row) (or_zero_l (single row) ∙ sym c.before.single.ensures) ∙ f 0 s
-          ∙ sym (read_same t i (gap s) (word names 0 s) p.requires.0 (gap-name s (get_or t i 0) p.requires.1 c.before.before.before.before.before.before.before.before.if1.false (λ z. c.before.before.before.before.before.before.if2.false (c.before.before.before.before.before.before.before.lower.ensures ∙ z)))),
-      subject-end t i next c.names_at.result e.0 c.names_at.ensures.1,
+          ∙ sym (read_same t i (gap s) (word names 0 s) p.requires.0 (gap_name s (get_or t i 0) p.requires.1 c.before.before.before.before.before.before.before.before.if1.false (λ z. c.before.before.before.before.before.before.if2.false (c.before.before.before.before.before.before.before.lower.ensures ∙ z)))),
+      subject_end t i next c.names_at.result e.0 c.names_at.ensures.1,
     )
 
 pub subject-at-spec : {M : Type 1} → statement M

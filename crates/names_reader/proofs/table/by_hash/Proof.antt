@@ -1,11 +1,11 @@
 -- `names_reader::table::by_hash` meets its contract: every entry at once, by computing the rows. Assumes nothing.
 use mathlib.Core.Path.{refl}
-use Rattle.names_reader.specs.Inside.{rows, rowFor, rowsFor, index}
+use Rattle.names_reader.specs.Inside.{rows, row_for, rows_for, index}
 use Rattle.names_reader.proofs.table.by_hash.Statement.{statement}
 use Rattle.names_reader.proofs.table.by_hash.Tie as tie
 
 returns : tie.Need-returns
-unfolding index rowsFor rowFor rows
+unfolding index rows_for row_for rows
 returns c = refl
 
 pub by-hash-spec : {M : Type 1} → statement M

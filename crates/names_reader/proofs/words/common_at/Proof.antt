@@ -7,7 +7,7 @@ use lib.ListN.{drop}
 use borrow.Author.Rules.{rules}
 use borrow.Author.Tests.{eq-eqb, ne_eqb}
 use Rattle.names_reader.specs.Inside.{common}
-use Rattle.names_reader.proofs.Common.{common-step, common-short, common-end}
+use Rattle.names_reader.proofs.Common.{common_step, common_short, common_end}
 use Rattle.names_reader.proofs.words.common_at.Statement.{statement}
 use Rattle.names_reader.proofs.words.common_at.Tie as tie
 
@@ -27,7 +27,7 @@ returns : tie.Need-returns invariant-loop decreases-loop
 returns c =
     let l = c.before.before in
     let a = l.before.before.before.args in
-    sym (l.loop.invariant.0 ∙ common-short (drop l.loop.k a.key.now) a.text.now (a.at + l.loop.k) l.loop.k (omega arith))
+    sym (l.loop.invariant.0 ∙ common_short (drop l.loop.k a.key.now) a.text.now (a.at + l.loop.k) l.loop.k (omega arith))
 
 add-lower : tie.Need-overflow-add-lower invariant-loop decreases-loop
 add-lower c = search rules
@@ -46,7 +46,7 @@ returns-2 c =
     let l = c.before.before.before.before.before.before in
     let a = l.before.before.before.args in
     sym (l.loop.invariant.0 ∙ rw (
-      common-step a.key.now a.text.now l.loop.k (a.at + l.loop.k) (a.at + (l.loop.k + 1)) l.loop.k (omega arith) (omega arith) (omega arith),
+      common_step a.key.now a.text.now l.loop.k (a.at + l.loop.k) (a.at + (l.loop.k + 1)) l.loop.k (omega arith) (omega arith) (omega arith),
       ← c.before.before.lower.ensures,
       ne_eqb _ _ c.if2.true,
     ))
@@ -62,7 +62,7 @@ loop-again c =
     let l = c.before.before.before.before.before.before in
     let a = l.before.before.before.args in (
       l.loop.invariant.0 ∙ rw (
-        common-step a.key.now a.text.now l.loop.k (a.at + l.loop.k) (a.at + (l.loop.k + 1)) l.loop.k (omega arith) (omega arith) (omega arith),
+        common_step a.key.now a.text.now l.loop.k (a.at + l.loop.k) (a.at + (l.loop.k + 1)) l.loop.k (omega arith) (omega arith) (omega arith),
         ← c.before.before.lower.ensures,
         eq-eqb _ _ c.if2.false,
       ),
@@ -73,7 +73,7 @@ returns-3 : tie.Need-returns-3 invariant-loop decreases-loop
 returns-3 c =
     let l = c.before in
     let a = l.before.before.before.args in
-    sym (l.loop.invariant.0 ∙ common-end a.key.now _ l.loop.k l.loop.k (omega arith))
+    sym (l.loop.invariant.0 ∙ common_end a.key.now _ l.loop.k l.loop.k (omega arith))
 
 pub common-at-spec : {M : Type 1} → statement M
 common-at-spec =

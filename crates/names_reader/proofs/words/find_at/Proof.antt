@@ -5,8 +5,8 @@ use native.Mathlib.Omega.{arith}
 use lib.ListN.{length, drop, length-drop}
 use borrow.Author.Rules.{rules}
 use Rattle.names_reader.specs.Inside.{row_at, text_of}
-use Rattle.names_reader.proofs.Common.{common-le}
-use Rattle.names_reader.proofs.Rows.{one-row, searched}
+use Rattle.names_reader.proofs.Common.{common_le}
+use Rattle.names_reader.proofs.Rows.{one_row, searched}
 use Rattle.names_reader.proofs.words.find_at.Statement.{statement}
 use Rattle.names_reader.proofs.words.find_at.Tie as tie
 
@@ -27,7 +27,7 @@ add-next c =
     let k = c.before.before.before in
     let s = k.before.before.before.before.before.before in
     let t = drop s.args.at s.args.text.now in
-    omega (arith, (common-le (text_of (row_at k.before.before.indexed-at.result)) t).1, k.row_Common.ensures, length-drop s.args.at s.args.text.now, s.requires.0)
+    omega (arith, (common_le (text_of (row_at k.before.before.indexed-at.result)) t).1, k.row_Common.ensures, length-drop s.args.at s.args.text.now, s.requires.0)
 
 returns : tie.Need-returns
 returns c =
@@ -36,7 +36,7 @@ returns c =
     let a = k.before.before.before.before.before.before.args in
     let w = text_of (row_at n) in
     let q : k.row_Common.result ≡ length w = c.before.if2.true ∙ c.before.before.name-length.ensures.0 in
-    (w, rw c.number_of_lem.ensures (one-row n k.before.if1.true), sym k.row_Common.ensures ∙ q, ap (λ (i : ℕ). a.at + i) q)
+    (w, rw c.number_of_lem.ensures (one_row n k.before.if1.true), sym k.row_Common.ensures ∙ q, ap (λ (i : ℕ). a.at + i) q)
 
 search-at-requires : tie.Need-search-at-requires
 search-at-requires c κs = search rules

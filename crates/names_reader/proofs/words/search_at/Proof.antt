@@ -9,8 +9,8 @@ use borrow.Author.Tests.{eq-eqb, ne_eqb}
 use Rattle.names.specs.Inside.{Row}
 use Rattle.names_reader.specs.Inside.{rows, row_at, text_of, number_of, find}
 use Rattle.names_reader.specs.declared.Name.TheVariants.{Is}
-use Rattle.names_reader.proofs.Common.{common-le}
-use Rattle.names_reader.proofs.Rows.{row_in, rows-length, find-is, find-next, find-end}
+use Rattle.names_reader.proofs.Common.{common_le}
+use Rattle.names_reader.proofs.Rows.{row_in, rows_length, find_is, find_next, find_end}
 use Rattle.names_reader.proofs.words.search_at.Statement.{statement}
 use Rattle.names_reader.proofs.words.search_at.Tie as tie
 
@@ -37,7 +37,7 @@ add-next c =
     let k = c.before.before.before in
     let s = k.before.before.before.before.before in
     let t = drop s.args.at s.args.text.now in
-    omega (arith, (common-le (text_of (row_at k.before.before.loop.row)) t).1, k.row_Common.ensures, length-drop s.args.at s.args.text.now, s.requires.0)
+    omega (arith, (common_le (text_of (row_at k.before.before.loop.row)) t).1, k.row_Common.ensures, length-drop s.args.at s.args.text.now, s.requires.0)
 
 returns : tie.Need-returns invariant-loop decreases-loop
 returns c =
@@ -52,7 +52,7 @@ returns c =
     sym
     (l.loop.invariant.0
     ∙ ap (λ (xs : List Row). find a.at l.loop.best xs t) r.rest
-    ∙ find-is a.at l.loop.best t x _ (eq-eqb _ _ (sym c.before.before.before.row_Common.ensures ∙ q))
+    ∙ find_is a.at l.loop.best t x _ (eq-eqb _ _ (sym c.before.before.before.row_Common.ensures ∙ q))
     ∙ ap (λ (i : ℕ). Is (number_of x) (a.at + i)) (sym q)
     ∙ ap (λ (i : ℕ). Is i (a.at + k)) (sym c.number_of_lem.ensures))
 
@@ -76,10 +76,10 @@ loop-again c =
     let e = c.before.before.before.row_Common.ensures in (
       l.loop.invariant.0
           ∙ ap (λ (xs : List Row). find a.at l.loop.best xs t) r.rest
-          ∙ find-next a.at l.loop.best t x _ (ne_eqb _ _ (λ z. c.before.if1.false (e ∙ z ∙ sym c.before.before.name-length.ensures.0)))
+          ∙ find_next a.at l.loop.best t x _ (ne_eqb _ _ (λ z. c.before.if1.false (e ∙ z ∙ sym c.before.before.name-length.ensures.0)))
           ∙ ap (λ (i : ℕ). find a.at i (drop (l.loop.row + 1) rows) t) (ap (λ (i : ℕ). max l.loop.best i) (sym e) ∙ sym c.larger.ensures),
       search rules,
-      omega (arith, (common-le (text_of x) t).1, e, c.larger.ensures, l.loop.invariant.2, length-drop a.at a.text.now, s.requires.0),
+      omega (arith, (common_le (text_of x) t).1, e, c.larger.ensures, l.loop.invariant.2, length-drop a.at a.text.now, s.requires.0),
     )
 
 add-place : tie.Need-overflow-add-place invariant-loop decreases-loop
@@ -89,7 +89,7 @@ returns-2 : tie.Need-returns-2 invariant-loop decreases-loop
 returns-2 c =
     let l = c.before in
     let a = l.before.before.before.args in
-    sym (l.loop.invariant.0 ∙ find-end a.at l.loop.best _ (drop l.loop.row rows) (drop_of_length-le rows {i = l.loop.row} (omega (arith, rows-length, c.loop-test.false))))
+    sym (l.loop.invariant.0 ∙ find_end a.at l.loop.best _ (drop l.loop.row rows) (drop_of_length-le rows {i = l.loop.row} (omega (arith, rows_length, c.loop-test.false))))
 
 pub search-at-spec : {M : Type 1} → statement M
 search-at-spec =

@@ -2,7 +2,7 @@
 use mathlib.Core.Path.{ap, ◌∙◌}
 use mathlib.Core.Bool.{Bool, cond}
 use native.Mathlib.Omega.{arith}
-use Rattle.names_writer.proofs.Texts.{flags-length}
+use Rattle.names_writer.proofs.Texts.{flags_length}
 use borrow.Author.Rules.{rules}
 use Rattle.names_writer.proofs.clause.flag_count.Statement.{statement}
 use Rattle.names_writer.proofs.clause.flag_count.Tie as tie
@@ -37,7 +37,7 @@ returns c =
     let x = c.before.before.before.before.one-if.ensures.0 ∙ ap (λ (q : Bool). cond q 1 0) c.before.before.before.before.before.has.ensures in
     let y = c.before.before.one-if2.ensures.0 ∙ ap (λ (q : Bool). cond q 1 0) c.before.before.before.has2.ensures in
     let z = c.one-if3.ensures.0 ∙ ap (λ (q : Bool). cond q 1 0) c.before.has3.ensures in
-    (omega (arith, x, y, z, flags-length a.held a.n), omega (arith, c.before.before.before.before.one-if.ensures.1, c.before.before.one-if2.ensures.1, c.one-if3.ensures.1))
+    (omega (arith, x, y, z, flags_length a.held a.n), omega (arith, c.before.before.before.before.one-if.ensures.1, c.before.before.one-if2.ensures.1, c.one-if3.ensures.1))
 
 pub flag-count-spec : {M : Type 1} → statement M
 flag-count-spec =

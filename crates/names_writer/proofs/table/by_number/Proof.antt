@@ -1,12 +1,12 @@
 -- `names_writer::table::by_number` meets its contract: every entry at once, by computing the rows. Assumes nothing.
 use mathlib.Core.Path.{refl}
-use Rattle.names.specs.Names.{capabilityNames}
+use Rattle.names.specs.Names.{capability_names}
 use Rattle.names.specs.Inside.{flat, rows_from}
 use Rattle.names_writer.proofs.table.by_number.Statement.{statement}
 use Rattle.names_writer.proofs.table.by_number.Tie as tie
 
 returns : tie.Need-returns
-unfolding flat rows_from capabilityNames
+unfolding flat rows_from capability_names
 returns c = refl
 
 pub by-number-spec : {M : Type 1} → statement M

@@ -4,13 +4,13 @@ use Prim.Native.Nat.{◌≤◌, ◌+◌, ◌-◌, ◌*◌}
 use native.Mathlib.Omega.{arith}
 use borrow.Author.Rules.{rules}
 use lib.ListN.{length, take, drop}
-use Rattle.plan.specs.Inside.{answersText, firstAnswers}
-use Rattle.plan.proofs.ReportLaws.{lines-length, lines_end}
+use Rattle.plan.specs.Inside.{answers_text, first_answers}
+use Rattle.plan.proofs.ReportLaws.{lines_length, lines_end}
 use Rattle.plan.proofs.report.results_length.Statement.{statement}
 use Rattle.plan.proofs.report.results_length.Tie as tie
 
 abbrev invariant-loop : tie.invariant-loop
-invariant-loop codes values causes count n₀ j₀ n j = (length (firstAnswers count codes values causes) ≡ n + length (answersText (drop j (take count codes)) (drop j (take count values)) (drop j (take count causes)))) × (j ≤ count) × (n ≤ 80 * j)
+invariant-loop codes values causes count n₀ j₀ n j = (length (first_answers count codes values causes) ≡ n + length (answers_text (drop j (take count codes)) (drop j (take count values)) (drop j (take count causes)))) × (j ≤ count) × (n ≤ 80 * j)
 
 abbrev decreases-loop : tie.decreases-loop
 decreases-loop codes values causes count n₀ j₀ n j = count - j
@@ -61,7 +61,7 @@ loop-again c =
     let a = s.args in
     let code = rw c.before.before.before.before.wide.ensures.0 at c.before.decimal-length.ensures.0 in
     let cause = rw c.before.before.wide2.ensures.0 at c.decimal-length2.ensures.0 in
-    let one = lines-length a.codes.now a.values.now a.causes.now a.count (omega (arith, s.requires.0, s.requires.3)) (omega (arith, s.requires.1, s.requires.3)) (omega (arith, s.requires.2, s.requires.3)) l.j c.before.before.before.before.before.before.loop-test.true in
+    let one = lines_length a.codes.now a.values.now a.causes.now a.count (omega (arith, s.requires.0, s.requires.3)) (omega (arith, s.requires.1, s.requires.3)) (omega (arith, s.requires.2, s.requires.3)) l.j c.before.before.before.before.before.before.loop-test.true in
     (omega (arith, l.invariant.0, one, code, cause), search rules, omega (arith, c.before.decimal-length.ensures.1, c.decimal-length2.ensures.1, l.invariant.2))
 
 returns : tie.Need-returns invariant-loop decreases-loop

@@ -1,9 +1,9 @@
 -- `plan::report::write_report` meets its contract. Assumes nothing.
 use mathlib.Core.Path.{◌∙◌}
 use native.Mathlib.Omega.{arith}
-use Rattle.format.specs.Sheet.{sheetText}
-use Rattle.plan.specs.Inside.{firstAnswers}
-use Rattle.plan.proofs.ReportLaws.{report-done, report-no-room, sheet-put}
+use Rattle.format.specs.Sheet.{sheet_text}
+use Rattle.plan.specs.Inside.{first_answers}
+use Rattle.plan.proofs.ReportLaws.{report_done, report_no_room, sheet_put}
 use borrow.Author.Rules.{rules}
 use Rattle.plan.proofs.report.write_report.Statement.{statement}
 use Rattle.plan.proofs.report.write_report.Tie as tie
@@ -33,15 +33,15 @@ returns : tie.Need-returns
 returns c =
     let s = c.before.before.before.before.before.before.before.before.before.before.before.before in
     let a = s.args in
-    let answers = firstAnswers a.count a.codes.now a.values.now a.causes.now in
+    let answers = first_answers a.count a.codes.now a.values.now a.causes.now in
     let results = c.before.before.before.before.before.before.write-results.ensures in
-    report-done answers (sheetText a.last) a.buf.now _ _ _ _ (omega (arith, c.before.before.before.before.before.before.before.before.before.before.results-length.ensures.0, c.before.before.before.before.before.before.before.before.before.sheet-length.ensures.0)) c.before.before.before.before.before.before.before.before.if1.true results.0 results.1 (c.before.before.write-at.ensures.1 ∙ sheet-put _ a.last _ _ s.requires.4 s.requires.5)
+    report_done answers (sheet_text a.last) a.buf.now _ _ _ _ (omega (arith, c.before.before.before.before.before.before.before.before.before.before.results-length.ensures.0, c.before.before.before.before.before.before.before.before.before.sheet-length.ensures.0)) c.before.before.before.before.before.before.before.before.if1.true results.0 results.1 (c.before.before.write-at.ensures.1 ∙ sheet_put _ a.last _ _ s.requires.4 s.requires.5)
 
 returns-2 : tie.Need-returns-2
 returns-2 c =
     let a = c.before.before.before.before.args in
-    let answers = firstAnswers a.count a.codes.now a.values.now a.causes.now in
-    report-no-room answers (sheetText a.last) a.buf.now (omega (arith, c.before.before.results-length.ensures.0, c.before.sheet-length.ensures.0, c.if1.false))
+    let answers = first_answers a.count a.codes.now a.values.now a.causes.now in
+    report_no_room answers (sheet_text a.last) a.buf.now (omega (arith, c.before.before.results-length.ensures.0, c.before.sheet-length.ensures.0, c.if1.false))
 
 pub write-report-spec : {M : Type 1} → statement M
 write-report-spec =

@@ -1,6 +1,6 @@
 -- `plan::report::write_result` meets its contract. Assumes nothing.
-use Rattle.format.specs.Report.{resultKinds}
-use Rattle.line_writer.specs.Inside.{linesPut}
+use Rattle.format.specs.Report.{result_kinds}
+use Rattle.line_writer.specs.Inside.{lines_put}
 use borrow.Author.Rules.{rules}
 use Rattle.plan.proofs.report.write_result.Statement.{statement}
 use Rattle.plan.proofs.report.write_result.Tie as tie
@@ -27,7 +27,7 @@ same_length : tie.Need-same-length
 same_length c = search rules
 
 returns : tie.Need-returns
-unfolding linesPut resultKinds
+unfolding lines_put result_kinds
 returns c =
     let c3 = c.before.before in
     let c2 = c3.before.before.before.before.before in

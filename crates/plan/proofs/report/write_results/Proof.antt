@@ -6,16 +6,16 @@ use native.Mathlib.Omega.{arith}
 use borrow.Author.Rules.{rules}
 use lib.ListN.{length, take, drop, get_or, length-append}
 use lib.Seq.{sets}
-use Rattle.format.specs.Line.{linesText}
-use Rattle.format.specs.Report.{resultKinds}
+use Rattle.format.specs.Line.{lines_text}
+use Rattle.format.specs.Report.{result_kinds}
 use Rattle.line_writer.specs.Inside.{Put}
-use Rattle.plan.specs.Inside.{answersText, firstAnswers}
-use Rattle.plan.proofs.ReportLaws.{lines_step, lines_end, put-lines, result-put}
+use Rattle.plan.specs.Inside.{answers_text, first_answers}
+use Rattle.plan.proofs.ReportLaws.{lines_step, lines_end, put_lines, result_put}
 use Rattle.plan.proofs.report.write_results.Statement.{statement}
 use Rattle.plan.proofs.report.write_results.Tie as tie
 
 abbrev invariant-loop : tie.invariant-loop
-invariant-loop buf₀ codes values causes count table at₀ j₀ buf at j = (sets buf₀ 0 (firstAnswers count codes values causes) ≡ sets buf at (answersText (drop j (take count codes)) (drop j (take count values)) (drop j (take count causes)))) × (length (firstAnswers count codes values causes) ≡ at + length (answersText (drop j (take count codes)) (drop j (take count values)) (drop j (take count causes)))) × (j ≤ count) × (length buf ≡ length buf₀)
+invariant-loop buf₀ codes values causes count table at₀ j₀ buf at j = (sets buf₀ 0 (first_answers count codes values causes) ≡ sets buf at (answers_text (drop j (take count codes)) (drop j (take count values)) (drop j (take count causes)))) × (length (first_answers count codes values causes) ≡ at + length (answers_text (drop j (take count codes)) (drop j (take count values)) (drop j (take count causes)))) × (j ≤ count) × (length buf ≡ length buf₀)
 
 abbrev decreases-loop : tie.decreases-loop
 decreases-loop buf₀ codes values causes count table at₀ j₀ buf at j = count - j
@@ -61,12 +61,12 @@ loop-again c =
     let q : a.count ≤ length a.values.now = omega (arith, s.requires.1, s.requires.3) in
     let r : a.count ≤ length a.causes.now = omega (arith, s.requires.2, s.requires.3) in
     let vs = get_or a.codes.now l.j 0 ∷ get_or a.values.now l.j 0 ∷ get_or a.causes.now l.j 0 ∷ [] in
-    let one = ap length (lines_step a.codes.now a.values.now a.causes.now a.count p q r l.j h) ∙ length-append (linesText resultKinds vs) _ in
-    let put = result-put a.table.now vs l.buf l.at s.requires.4 (omega (arith, s.requires.5, l.invariant.1, l.invariant.3, one)) in
+    let one = ap length (lines_step a.codes.now a.values.now a.causes.now a.count p q r l.j h) ∙ length-append (lines_text result_kinds vs) _ in
+    let put = result_put a.table.now vs l.buf l.at s.requires.4 (omega (arith, s.requires.5, l.invariant.1, l.invariant.3, one)) in
     let e = rw (c.before.before.before.before.before.before.before.wide.ensures.0, c.before.before.before.before.wide2.ensures.0) at w.write-result.ensures in
     let at = e.0 ∙ ap (λ (x : Put). x.at) put in
     let buf = e.1 ∙ ap (λ (x : Put). x.buffer) put in (
-      l.invariant.0 ∙ put-lines a.codes.now a.values.now a.causes.now a.count p q r l.buf _ l.at _ l.j h at buf,
+      l.invariant.0 ∙ put_lines a.codes.now a.values.now a.causes.now a.count p q r l.buf _ l.at _ l.j h at buf,
       omega (arith, l.invariant.1, one, at),
       search rules,
       w.write-result.auto.0 ∙ l.invariant.3,

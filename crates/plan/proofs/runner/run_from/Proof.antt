@@ -2,8 +2,8 @@
 use mathlib.Core.Path.{refl, sym, ap, ◌∙◌}
 use native.Mathlib.Omega.{arith}
 use Rattle.plan.specs.declared.runner.StepsRun.{StepsRun}
-use Rattle.plan.specs.Inside.{seenSteps}
-use Rattle.plan.proofs.ReportLaws.{steps-at-fault, plan-ran, last-valid}
+use Rattle.plan.specs.Inside.{seen_steps}
+use Rattle.plan.proofs.ReportLaws.{steps_at_fault, plan_ran, last_valid}
 use borrow.Author.Rules.{rules}
 use Rattle.plan.proofs.runner.run_from.Statement.{statement}
 use Rattle.plan.proofs.runner.run_from.Tie as tie
@@ -24,8 +24,8 @@ returns : tie.Need-returns
 returns c =
     let run = c.before.before.before.before.run-steps in
     let s = c.before.before.before.before.before.before.before.before.before.before in
-    let ran = sym run.ensures.0 ∙ ap (λ (x : StepsRun). seenSteps x run.new.1.1.1.0 run.new.1.1.1.1.0 run.new.1.1.1.1.1.0) c.before.before.line.given.1 in
-    rw (steps-at-fault _ _ _ _ s.requires.0 ran) (c.refused.ensures, refl)
+    let ran = sym run.ensures.0 ∙ ap (λ (x : StepsRun). seen_steps x run.new.1.1.1.0 run.new.1.1.1.1.0 run.new.1.1.1.1.1.0) c.before.before.line.given.1 in
+    rw (steps_at_fault _ _ _ _ s.requires.0 ran) (c.refused.ensures, refl)
 
 enum-known-count : tie.Need-enum-known-count
 enum-known-count c = search rules
@@ -34,9 +34,9 @@ write-report-requires : tie.Need-write-report-requires
 write-report-requires c κs =
     let run = c.before.before.before.before.before.before.before.before.run-steps in
     let s = c.before.before.before.before.before.before.before.before.before.before.before.before.before.before in
-    let ran = sym run.ensures.0 ∙ ap (λ (x : StepsRun). seenSteps x run.new.1.1.1.0 run.new.1.1.1.1.0 run.new.1.1.1.1.1.0) c.before.before.before.before.before.before.count.given.1 in
+    let ran = sym run.ensures.0 ∙ ap (λ (x : StepsRun). seen_steps x run.new.1.1.1.0 run.new.1.1.1.1.0 run.new.1.1.1.1.1.0) c.before.before.before.before.before.before.count.given.1 in
     let n = rw c.before.before.before.before.before.before.count.given.1 at run.ensures.1 in
-    (run.ensures.2, run.ensures.3, run.ensures.4, n, s.requires.3, last-valid s.args.plan.now _ _ _ (s.requires.1 ∙ c.before.before.before.before.if1.true) ran)
+    (run.ensures.2, run.ensures.3, run.ensures.4, n, s.requires.3, last_valid s.args.plan.now _ _ _ (s.requires.1 ∙ c.before.before.before.before.if1.true) ran)
 
 same_length : tie.Need-same-length
 same_length c = search rules
@@ -45,8 +45,8 @@ returns-2 : tie.Need-returns-2
 returns-2 c =
     let run = c.before.before.before.before.before.before.before.before.before.before.before.run-steps in
     let s = c.before.before.before.before.before.before.before.before.before.before.before.before.before.before.before.before.before in
-    let ran = sym run.ensures.0 ∙ ap (λ (x : StepsRun). seenSteps x run.new.1.1.1.0 run.new.1.1.1.1.0 run.new.1.1.1.1.1.0) c.before.before.before.before.before.before.before.before.before.count.given.1 in
-    rw (plan-ran _ _ _ _ s.requires.0 ran, s.requires.1, c.before.before.before.before.before.before.before.if1.true) c.before.before.write-report.ensures
+    let ran = sym run.ensures.0 ∙ ap (λ (x : StepsRun). seen_steps x run.new.1.1.1.0 run.new.1.1.1.1.0 run.new.1.1.1.1.1.0) c.before.before.before.before.before.before.before.before.before.count.given.1 in
+    rw (plan_ran _ _ _ _ s.requires.0 ran, s.requires.1, c.before.before.before.before.before.before.before.if1.true) c.before.before.write-report.ensures
 
 refused-requires-2 : tie.Need-refused-requires-2
 refused-requires-2 c κs = search rules
@@ -55,8 +55,8 @@ returns-3 : tie.Need-returns-3
 returns-3 c =
     let run = c.before.before.before.before.before.run-steps in
     let s = c.before.before.before.before.before.before.before.before.before.before.before in
-    let ran = sym run.ensures.0 ∙ ap (λ (x : StepsRun). seenSteps x run.new.1.1.1.0 run.new.1.1.1.1.0 run.new.1.1.1.1.1.0) c.before.before.before.count.given.1 in
-    rw (plan-ran _ _ _ _ s.requires.0 ran, s.requires.1, c.before.if1.false) (c.refused2.ensures, refl)
+    let ran = sym run.ensures.0 ∙ ap (λ (x : StepsRun). seen_steps x run.new.1.1.1.0 run.new.1.1.1.1.0 run.new.1.1.1.1.1.0) c.before.before.before.count.given.1 in
+    rw (plan_ran _ _ _ _ s.requires.0 ran, s.requires.1, c.before.if1.false) (c.refused2.ensures, refl)
 
 pub run-from-spec : {M : Type 1} → statement M
 run-from-spec =

@@ -7,20 +7,20 @@ use borrow.Author.Rules.{rules}
 use lib.ListN.{length, take, drop, length-set}
 use lib.Seq.{take-suc-set}
 use Rattle.plan.specs.declared.step.StepRun.{StepRun}
-use Rattle.plan.specs.Inside.{ranSteps, seenStep}
-use Rattle.plan.proofs.RunLaws.{grown, grown-none, grown-all, grown-fault}
-use Rattle.plan.proofs.Steps.{steps-end, steps-full, steps-fault, steps-step}
+use Rattle.plan.specs.Inside.{ran_steps, seen_step}
+use Rattle.plan.proofs.RunLaws.{grown, grown_none, grown_all, grown_fault}
+use Rattle.plan.proofs.Steps.{steps_end, steps_full, steps_fault, steps_step}
 use Rattle.plan.proofs.runner.run_steps.Statement.{statement}
 use Rattle.plan.proofs.runner.run_steps.Tie as tie
 
 abbrev invariant-loop : tie.invariant-loop
-invariant-loop text first codes₀ values₀ causes₀ table held₀ at₀ count₀ codes values causes held at count = (ranSteps 256 held₀ (drop first text) ≡ grown 5 (take count codes) (take count values) (take count causes) (ranSteps (256 - count) held (drop at text))) × (count ≤ 256) × (length codes ≡ 256) × (length values ≡ 256) × (length causes ≡ 256)
+invariant-loop text first codes₀ values₀ causes₀ table held₀ at₀ count₀ codes values causes held at count = (ran_steps 256 held₀ (drop first text) ≡ grown 5 (take count codes) (take count values) (take count causes) (ran_steps (256 - count) held (drop at text))) × (count ≤ 256) × (length codes ≡ 256) × (length values ≡ 256) × (length causes ≡ 256)
 
 abbrev decreases-loop : tie.decreases-loop
 decreases-loop text first codes₀ values₀ causes₀ table held₀ at₀ count₀ codes values causes held at count = 256 - count
 
 loop-holds : tie.Need-loop-init invariant-loop decreases-loop
-loop-holds c = (grown-none 5 _, search rules, c.before.requires.0, c.before.requires.1, c.before.requires.2)
+loop-holds c = (grown_none 5 _, search rules, c.before.requires.0, c.before.requires.1, c.before.requires.2)
 
 cast-t16 : tie.Need-overflow-cast-t16 invariant-loop decreases-loop
 cast-t16 c = search rules
@@ -36,7 +36,7 @@ returns c =
     let l = c.before.before.loop in
     let t = c.before.before.before.before.args.text.now in
     let h = c.before.loop-test.true in (
-      rw (l.invariant.0, steps-full l.at t l.held (256 - l.count) (omega (arith, c.if1.true)) h, grown-fault 5 l.codes (take l.count l.values) (take l.count l.causes) l.count 1 (omega arith)),
+      rw (l.invariant.0, steps_full l.at t l.held (256 - l.count) (omega (arith, c.if1.true)) h, grown_fault 5 l.codes (take l.count l.values) (take l.count l.causes) l.count 1 (omega arith)),
       search rules,
       l.invariant.2,
       l.invariant.3,
@@ -64,8 +64,8 @@ returns-2 c =
     let t = c.before.before.before.before.before.before.before.before.args.text.now in
     let h = c.before.before.before.before.before.loop-test.true in
     let line = rw c.before.line.given.1 at c.before.before.before.run_step.ensures.1 in
-    let one = sym c.before.before.before.run_step.ensures.0 ∙ ap (λ (x : StepRun). seenStep x t) c.before.line.given.1 in (
-      rw (l.invariant.0, steps-fault l.at t l.held (256 - l.count) (256 - (l.count + 1)) _ (omega arith) h one, grown-fault 5 l.codes (take l.count l.values) (take l.count l.causes) l.count _ (omega arith)),
+    let one = sym c.before.before.before.run_step.ensures.0 ∙ ap (λ (x : StepRun). seen_step x t) c.before.line.given.1 in (
+      rw (l.invariant.0, steps_fault l.at t l.held (256 - l.count) (256 - (l.count + 1)) _ (omega arith) h one, grown_fault 5 l.codes (take l.count l.values) (take l.count l.causes) l.count _ (omega arith)),
       omega (arith, line),
       l.invariant.2,
       l.invariant.3,
@@ -98,10 +98,10 @@ loop-again c =
     let l = c.before.before.before.before.before.before.before.loop in
     let t = c.before.before.before.before.before.before.before.before.before.args.text.now in
     let h = c.before.before.before.before.before.before.loop-test.true in
-    let one = sym c.before.before.before.before.run_step.ensures.0 ∙ ap (λ (x : StepRun). seenStep x t) c.before.before.given.given.1 in
+    let one = sym c.before.before.before.before.run_step.ensures.0 ∙ ap (λ (x : StepRun). seen_step x t) c.before.before.given.given.1 in
     let room : l.count < 256 = omega arith in (
       rw (add-one l.count, take-suc-set l.codes l.count _ (omega (arith, room)), take-suc-set l.values l.count _ (omega (arith, room)), take-suc-set l.causes l.count _ (omega (arith, room)))
-          (l.invariant.0 ∙ steps-step l.at t l.held (256 - l.count) (256 - suc l.count) (take l.count l.codes) (take l.count l.values) (take l.count l.causes) _ _ (omega arith) h one),
+          (l.invariant.0 ∙ steps_step l.at t l.held (256 - l.count) (256 - suc l.count) (take l.count l.codes) (take l.count l.values) (take l.count l.causes) _ _ (omega arith) h one),
       omega arith,
       simp length-set l.invariant.2,
       simp length-set l.invariant.3,
@@ -112,7 +112,7 @@ returns-3 : tie.Need-returns-3 invariant-loop decreases-loop
 returns-3 c =
     let l = c.before.loop in
     let t = c.before.before.before.args.text.now in
-    (rw (l.invariant.0, steps-end l.at t l.held (256 - l.count) c.loop-test.false) (sym (grown-all 5 _ _ _ _)), l.invariant.1, l.invariant.2, l.invariant.3, l.invariant.4)
+    (rw (l.invariant.0, steps_end l.at t l.held (256 - l.count) c.loop-test.false) (sym (grown_all 5 _ _ _ _)), l.invariant.1, l.invariant.2, l.invariant.3, l.invariant.4)
 
 pub run-steps-spec : {M : Type 1} → statement M
 run-steps-spec =

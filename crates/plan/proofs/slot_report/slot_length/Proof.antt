@@ -1,6 +1,6 @@
 -- `plan::slot_report::slot_length` meets its contract. Assumes nothing.
 use native.Mathlib.Omega.{arith}
-use Rattle.plan.proofs.SlotLaws.{slot-length}
+use Rattle.plan.proofs.SlotLaws.{slot_length}
 use borrow.Author.Rules.{rules}
 use Rattle.plan.proofs.slot_report.slot_length.Statement.{statement}
 use Rattle.plan.proofs.slot_report.slot_length.Tie as tie
@@ -22,7 +22,7 @@ returns c =
     let a = c.before.before.args in
     let d = c.before.decimal-length.ensures in
     let s = c.sheet-length.ensures in
-    (omega (arith, d.0, s.0, slot-length a.slot a.held), omega (arith, d.1, s.1))
+    (omega (arith, d.0, s.0, slot_length a.slot a.held), omega (arith, d.1, s.1))
 
 pub slot-length-spec : {M : Type 1} → statement M
 slot-length-spec =

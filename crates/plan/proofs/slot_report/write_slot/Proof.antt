@@ -1,7 +1,7 @@
 -- `plan::slot_report::write_slot` meets its contract. Assumes nothing.
 use mathlib.Core.Path.{◌∙◌}
 use native.Mathlib.Omega.{arith}
-use Rattle.plan.proofs.SlotLaws.{slot-put}
+use Rattle.plan.proofs.SlotLaws.{slot_put}
 use borrow.Author.Rules.{rules}
 use Rattle.plan.proofs.slot_report.write_slot.Statement.{statement}
 use Rattle.plan.proofs.slot_report.write_slot.Tie as tie
@@ -21,7 +21,7 @@ cast-result c = search rules
 add-result : tie.Need-overflow-add-result
 add-result c =
     let s = c.before.before.before.before.before.before.before.before.before.before.before in
-    let put = slot-put _ _ _ _ _ _ _ _ _ s.requires.0 s.requires.1 s.requires.2 c.before.before.before.before.before.before.before.write-decimal.ensures.0 c.before.before.before.before.before.before.before.write-decimal.ensures.1 c.before.before.before.write-at.ensures.0 c.before.before.before.write-at.ensures.1 in
+    let put = slot_put _ _ _ _ _ _ _ _ _ s.requires.0 s.requires.1 s.requires.2 c.before.before.before.before.before.before.before.write-decimal.ensures.0 c.before.before.before.before.before.before.before.write-decimal.ensures.1 c.before.before.before.write-at.ensures.0 c.before.before.before.write-at.ensures.1 in
     record { fits = omega (arith, put.0, s.requires.3) }
 
 same_length : tie.Need-same-length
@@ -30,7 +30,7 @@ same_length c = search rules
 returns : tie.Need-returns
 returns c =
     let s = c.before.before.before.before.before.before.before.before.before.before.before in
-    slot-put _ _ _ _ _ _ _ _ _ s.requires.0 s.requires.1 s.requires.2 c.before.before.before.before.before.before.before.write-decimal.ensures.0 c.before.before.before.before.before.before.before.write-decimal.ensures.1 c.before.before.before.write-at.ensures.0 c.before.before.before.write-at.ensures.1
+    slot_put _ _ _ _ _ _ _ _ _ s.requires.0 s.requires.1 s.requires.2 c.before.before.before.before.before.before.before.write-decimal.ensures.0 c.before.before.before.before.before.before.before.write-decimal.ensures.1 c.before.before.before.write-at.ensures.0 c.before.before.before.write-at.ensures.1
 
 pub write-slot-spec : {M : Type 1} → statement M
 write-slot-spec =

@@ -1,8 +1,8 @@
 -- `plan::slot_runner::run_slot_plan` meets its contract. Assumes nothing.
 use mathlib.Core.Path.{refl, ◌∙◌}
-use Rattle.sheet_reader.proofs.Format.{front-is}
-use Rattle.sheet_reader.proofs.Whole.{front-told, front-told-invalid, front-fault}
-use Rattle.plan.proofs.SlotReportLaws.{front-at-fault}
+use Rattle.sheet_reader.proofs.Format.{front_is}
+use Rattle.sheet_reader.proofs.Whole.{front_told, front_told_invalid, front_fault}
+use Rattle.plan.proofs.SlotReportLaws.{front_at_fault}
 use borrow.Author.Rules.{rules}
 use Rattle.plan.proofs.slot_runner.run_slot_plan.Statement.{statement}
 use Rattle.plan.proofs.slot_runner.run_slot_plan.Tie as tie
@@ -29,7 +29,7 @@ run-slots-from-requires : tie.Need-run-slots-from-requires
 run-slots-from-requires c κs =
     let front = c.before.before.before.before.before.before in
     let reading = front.before.before.before.reading-table.ensures in
-    let t = front-told-invalid _ _ _ (front-is _ _ _ reading front.read-front.ensures ∙ c.before.before.before.before.start.given.1) in
+    let t = front_told_invalid _ _ _ (front_is _ _ _ reading front.read-front.ensures ∙ c.before.before.before.before.start.given.1) in
     (t.is, t.validity, reading, front.before.before.writing-table.ensures)
 
 enum-known-start-2 : tie.Need-enum-known-start-2
@@ -39,15 +39,15 @@ run-slots-from-requires-2 : tie.Need-run-slots-from-requires-2
 run-slots-from-requires-2 c κs =
     let front = c.before.before.before.before.before.before in
     let reading = front.before.before.before.reading-table.ensures in
-    let t = front-told _ _ _ (front-is _ _ _ reading front.read-front.ensures ∙ c.before.before.before.before.start2.given.1) in
+    let t = front_told _ _ _ (front_is _ _ _ reading front.read-front.ensures ∙ c.before.before.before.before.start2.given.1) in
     (t.is, t.validity, reading, front.before.before.writing-table.ensures)
 
 returns : tie.Need-returns
 returns c =
     let front = c.before.before.before.before in
     let reading = front.before.before.before.reading-table.ensures in
-    let t = front-fault _ _ (front-is _ _ _ reading front.read-front.ensures ∙ c.before.before.line.given.1) in
-    rw (front-at-fault _ _ t) (c.refused.ensures, refl)
+    let t = front_fault _ _ (front_is _ _ _ reading front.read-front.ensures ∙ c.before.before.line.given.1) in
+    rw (front_at_fault _ _ t) (c.refused.ensures, refl)
 
 same_length : tie.Need-same-length
 same_length c = search rules

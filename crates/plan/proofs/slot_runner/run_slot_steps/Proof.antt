@@ -8,15 +8,15 @@ use lib.ListN.{length, take, drop, length-set}
 use lib.Seq.{take-suc-set}
 use Rattle.slots.specs.declared.turn.Turn.{Turn}
 use Rattle.slots.specs.Turn.{stored}
-use Rattle.slots.proofs.Turns.{turns-stored}
-use Rattle.plan.specs.Inside.{ranSlotSteps}
-use Rattle.plan.proofs.RunLaws.{grown, grown-none, grown-all, grown-fault}
-use Rattle.plan.proofs.SlotSteps.{slot-steps-end, slot-steps-full, slot-steps-fault, slot-steps-step, read-fault, turn-taken}
+use Rattle.slots.proofs.Turns.{turns_stored}
+use Rattle.plan.specs.Inside.{ran_slot_steps}
+use Rattle.plan.proofs.RunLaws.{grown, grown_none, grown_all, grown_fault}
+use Rattle.plan.proofs.SlotSteps.{slot_steps_end, slot_steps_full, slot_steps_fault, slot_steps_step, read_fault, turn_taken}
 use Rattle.plan.proofs.slot_runner.run_slot_steps.Statement.{statement}
 use Rattle.plan.proofs.slot_runner.run_slot_steps.Tie as tie
 
 abbrev invariant-loop : tie.invariant-loop
-invariant-loop text first codes₀ values₀ causes₀ reading table₀ at₀ count₀ codes values causes table at count = (ranSlotSteps 256 table₀ (drop first text) ≡ grown 6 (take count codes) (take count values) (take count causes) (ranSlotSteps (256 - count) table (drop at text))) × (count ≤ 256) × (length codes ≡ 256) × (length values ≡ 256) × (length causes ≡ 256)
+invariant-loop text first codes₀ values₀ causes₀ reading table₀ at₀ count₀ codes values causes table at count = (ran_slot_steps 256 table₀ (drop first text) ≡ grown 6 (take count codes) (take count values) (take count causes) (ran_slot_steps (256 - count) table (drop at text))) × (count ≤ 256) × (length codes ≡ 256) × (length values ≡ 256) × (length causes ≡ 256)
 
 abbrev decreases-loop : tie.decreases-loop
 decreases-loop text first codes₀ values₀ causes₀ reading table₀ at₀ count₀ codes values causes table at count = 256 - count
@@ -25,7 +25,7 @@ fresh-requires : tie.Need-fresh-requires invariant-loop decreases-loop
 fresh-requires c κs = tt
 
 loop-holds : tie.Need-loop-init invariant-loop decreases-loop
-loop-holds c = (grown-none 6 _, search rules, c.before.before.requires.0, c.before.before.requires.1, c.before.before.requires.2)
+loop-holds c = (grown_none 6 _, search rules, c.before.before.requires.0, c.before.before.requires.1, c.before.before.requires.2)
 
 cast-t22 : tie.Need-overflow-cast-t22 invariant-loop decreases-loop
 cast-t22 c = search rules
@@ -41,7 +41,7 @@ returns c =
     let l = c.before.before.loop in
     let t = c.before.before.before.before.before.args.text.now in
     let h = c.before.loop-test.true in (
-      rw (← c.before.before.before.fresh.ensures, l.invariant.0, slot-steps-full l.at t l.table (256 - l.count) (omega (arith, c.if1.true)) h, grown-fault 6 l.codes (take l.count l.values) (take l.count l.causes) l.count 1 (omega arith)),
+      rw (← c.before.before.before.fresh.ensures, l.invariant.0, slot_steps_full l.at t l.table (256 - l.count) (omega (arith, c.if1.true)) h, grown_fault 6 l.codes (take l.count l.values) (take l.count l.causes) l.count 1 (omega arith)),
       l.invariant.1,
       omega (arith, l.invariant.1),
       l.invariant.2,
@@ -71,8 +71,8 @@ returns-2 c =
     let read = c.before.before.before.read-slot-step in
     let line = read.ensures.1.0 c.before.if2.true in
     let room : l.count < 256 = omega (arith, l.invariant.1, c.before.before.before.before.if1.false) in
-    let one = read-fault l.table t l.at read.result read.ensures.0 c.before.if2.true in (
-      rw (← c.before.before.before.before.before.before.before.fresh.ensures, l.invariant.0, slot-steps-fault l.at t l.table (256 - l.count) (256 - (l.count + 1)) _ (omega (arith, room)) h one, grown-fault 6 l.codes (take l.count l.values) (take l.count l.causes) l.count _ (omega (arith, l.invariant.1, l.invariant.2))),
+    let one = read_fault l.table t l.at read.result read.ensures.0 c.before.if2.true in (
+      rw (← c.before.before.before.before.before.before.before.fresh.ensures, l.invariant.0, slot_steps_fault l.at t l.table (256 - l.count) (256 - (l.count + 1)) _ (omega (arith, room)) h one, grown_fault 6 l.codes (take l.count l.values) (take l.count l.causes) l.count _ (omega (arith, l.invariant.1, l.invariant.2))),
       l.invariant.1,
       omega (arith, room, line),
       l.invariant.2,
@@ -94,7 +94,7 @@ turn-of-requires c κs = c.before.before.before.before.before.read-slot-step.ens
 
 -- the slot that the turn is stored in is one of the 96
 stored-within : (c : tie.After-stored invariant-loop decreases-loop) → c.before.turn-of.result.to < 96
-stored-within c = subst (λ (t : Turn). t.to < 96) (sym c.before.turn-of.ensures) (turns-stored.within _ _ _ _)
+stored-within c = subst (λ (t : Turn). t.to < 96) (sym c.before.turn-of.ensures) (turns_stored.within _ _ _ _)
 
 mul-stored : tie.Need-overflow-mul-stored invariant-loop decreases-loop
 mul-stored c = record { fits = omega (arith, stored-within c) }
@@ -130,10 +130,10 @@ loop-again c =
     let h = c.before.before.before.before.before.before.before.before.before.loop-test.true in
     let read = c.before.before.before.before.before.before.before.read-slot-step in
     let turn = c.before.turn-of in
-    let one = turn-taken l.table t l.at read.result read.ensures.0 _ turn.result c.before.before.before.before.before.if2.false c.before.before.before.before.place.ensures.0 turn.ensures in
+    let one = turn_taken l.table t l.at read.result read.ensures.0 _ turn.result c.before.before.before.before.before.if2.false c.before.before.before.before.place.ensures.0 turn.ensures in
     let room : l.count < 256 = omega (arith, l.invariant.1, c.before.before.before.before.before.before.before.before.if1.false) in (
       rw (add-one l.count, take-suc-set l.codes l.count _ (omega (arith, room, l.invariant.2)), take-suc-set l.values l.count _ (omega (arith, room, l.invariant.3)), take-suc-set l.causes l.count _ (omega (arith, room, l.invariant.4)))
-          (l.invariant.0 ∙ slot-steps-step l.at t l.table (256 - l.count) (256 - suc l.count) (take l.count l.codes) (take l.count l.values) (take l.count l.causes) (stored l.table turn.result) _ (omega (arith, room)) h one),
+          (l.invariant.0 ∙ slot_steps_step l.at t l.table (256 - l.count) (256 - suc l.count) (take l.count l.codes) (take l.count l.values) (take l.count l.causes) (stored l.table turn.result) _ (omega (arith, room)) h one),
       omega (arith, room),
       simp length-set l.invariant.2,
       simp length-set l.invariant.3,
@@ -144,7 +144,7 @@ returns-3 : tie.Need-returns-3 invariant-loop decreases-loop
 returns-3 c =
     let l = c.before.loop in
     let t = c.before.before.before.before.args.text.now in
-    (rw (← c.before.before.fresh.ensures, l.invariant.0, slot-steps-end l.at t l.table (256 - l.count) c.loop-test.false) (sym (grown-all 6 _ _ _ _)), l.invariant.1, omega arith, l.invariant.2, l.invariant.3, l.invariant.4)
+    (rw (← c.before.before.fresh.ensures, l.invariant.0, slot_steps_end l.at t l.table (256 - l.count) c.loop-test.false) (sym (grown_all 6 _ _ _ _)), l.invariant.1, omega arith, l.invariant.2, l.invariant.3, l.invariant.4)
 
 pub run-slot-steps-spec : {M : Type 1} → statement M
 run-slot-steps-spec =

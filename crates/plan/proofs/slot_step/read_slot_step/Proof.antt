@@ -1,5 +1,5 @@
 -- `plan::slot_step::read_slot_step` meets its contract. Assumes nothing.
-use Rattle.plan.proofs.StepLaws.{slot-step-seen}
+use Rattle.plan.proofs.StepLaws.{slot_step_seen}
 use borrow.Author.Rules.{rules}
 use Rattle.plan.proofs.slot_step.read_slot_step.Statement.{statement}
 use Rattle.plan.proofs.slot_step.read_slot_step.Tie as tie
@@ -21,7 +21,7 @@ read-attribute-requires c κs = tt
 
 returns : tie.Need-returns
 returns c =
-    let t = slot-step-seen _ _ _ _ _ _ _ _ _ _ c.before.before.before.before.before.before.before.before.requires c.before.before.before.before.before.read-decimal.ensures c.before.before.before.before.read-operands.ensures c.before.before.read-attribute.ensures in
+    let t = slot_step_seen _ _ _ _ _ _ _ _ _ _ c.before.before.before.before.before.before.before.before.requires c.before.before.before.before.before.read-decimal.ensures c.before.before.before.before.read-operands.ensures c.before.before.read-attribute.ensures in
     (t.0, (t.1, t.2))
 
 pub read-slot-step-spec : {M : Type 1} → statement M

@@ -1,6 +1,6 @@
 -- `plan::step::read_operands` meets its contract. Assumes nothing.
-use Rattle.format.specs.Step.{stepKinds}
-use Rattle.line_reader.specs.Positions.{linesAt}
+use Rattle.format.specs.Step.{step_kinds}
+use Rattle.line_reader.specs.Positions.{lines_at}
 use borrow.Author.Rules.{rules}
 use Rattle.plan.proofs.step.read_operands.Statement.{statement}
 use Rattle.plan.proofs.step.read_operands.Tie as tie
@@ -30,7 +30,7 @@ read-hex16-requires-3 : tie.Need-read-hex16-requires-3
 read-hex16-requires-3 c κs = tt
 
 returns : tie.Need-returns
-unfolding linesAt stepKinds
+unfolding lines_at step_kinds
 returns c =
     simp (
       ← c.before.read-hex163.ensures,

@@ -3,7 +3,7 @@ use mathlib.Core.Path.{sym}
 use native.Mathlib.Omega.{arith}
 use native.Mathlib.Nat.{sub-zero}
 use Rattle.rules.specs.Run.{Step, result}
-use Rattle.plan.proofs.StepLaws.{step-fault, step-done}
+use Rattle.plan.proofs.StepLaws.{step_fault, step_done}
 use borrow.Author.Rules.{rules}
 use Rattle.plan.proofs.step.run_step.Statement.{statement}
 use Rattle.plan.proofs.step.run_step.Tie as tie
@@ -19,7 +19,7 @@ read-attribute-requires c κs = tt
 
 returns : tie.Need-returns
 returns c =
-    let s = step-fault _ _ _ _ _ _ _ c.before.before.before.before.before.before.requires c.before.before.before.before.read-operands.ensures c.before.before.read-attribute.ensures c.if1.true in
+    let s = step_fault _ _ _ _ _ _ _ c.before.before.before.before.before.before.requires c.before.before.before.before.read-operands.ensures c.before.before.read-attribute.ensures c.if1.true in
     (sym s.0, s.1)
 
 sub-perform : tie.Need-overflow-sub-perform
@@ -30,7 +30,7 @@ part-perform-start c = search rules
 
 part-perform-end : tie.Need-slice-bounds-perform-end
 part-perform-end c =
-    let s = step-done (λ (x : Step). x) _ _ _ _ _ _ c.before.before.before.before.before.before.before.before.requires c.before.before.before.before.before.before.read-operands.ensures c.before.before.before.before.read-attribute.ensures c.before.before.if1.false in
+    let s = step_done (λ (x : Step). x) _ _ _ _ _ _ c.before.before.before.before.before.before.before.before.requires c.before.before.before.before.before.before.read-operands.ensures c.before.before.before.before.read-attribute.ensures c.before.before.if1.false in
     omega (arith, s.1, s.2)
 
 perform-requires : tie.Need-perform-requires
@@ -51,7 +51,7 @@ after-requires c κs = tt
 returns-2 : tie.Need-returns-2
 unfolding result
 returns-2 c =
-    let s = step-done (result c.before.before.before.before.before.before.before.before.before.before.before.before.before.before.args.held) _ _ _ _ _ _ c.before.before.before.before.before.before.before.before.before.before.before.before.before.before.requires c.before.before.before.before.before.before.before.before.before.before.before.before.read-operands.ensures c.before.before.before.before.before.before.before.before.before.before.read-attribute.ensures c.before.before.before.before.before.before.before.before.if1.false in
+    let s = step_done (result c.before.before.before.before.before.before.before.before.before.before.before.before.before.before.args.held) _ _ _ _ _ _ c.before.before.before.before.before.before.before.before.before.before.before.before.before.before.requires c.before.before.before.before.before.before.before.before.before.before.before.before.read-operands.ensures c.before.before.before.before.before.before.before.before.before.before.read-attribute.ensures c.before.before.before.before.before.before.before.before.if1.false in
     (rw (s.0, c.after.ensures, c.before.value.ensures, c.before.before.cause.ensures, c.before.before.before.code.ensures, c.before.before.before.before.perform.ensures, sub-zero), search rules)
 
 pub run-step-spec : {M : Type 1} → statement M

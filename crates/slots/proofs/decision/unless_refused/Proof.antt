@@ -1,5 +1,5 @@
 -- `slots::decision::unless_refused` meets its contract. Assumes nothing.
-use Rattle.threads.specs.Step.{unlessRefused}
+use Rattle.threads.specs.Step.{unless_refused}
 use borrow.Author.Rules.{rules}
 use Rattle.slots.proofs.decision.unless_refused.Statement.{statement}
 use Rattle.slots.proofs.decision.unless_refused.Tie as tie
@@ -11,7 +11,7 @@ uses-none-requires : tie.Need-uses-none-requires
 uses-none-requires c κs = search rules
 
 returns : tie.Need-returns
-unfolding unlessRefused
+unfolding unless_refused
 returns c =
     simp (
       c.if2.true,
@@ -21,7 +21,7 @@ returns c =
     )
 
 returns-2 : tie.Need-returns-2
-unfolding unlessRefused
+unfolding unless_refused
 returns-2 c =
     simp (
       c.if2.false,
@@ -31,7 +31,7 @@ returns-2 c =
     )
 
 returns-3 : tie.Need-returns-3
-unfolding unlessRefused
+unfolding unless_refused
 returns-3 c =
     simp (
       c.if1.false,

@@ -5,13 +5,13 @@ use native.Mathlib.Omega.{arith}
 use native.Mathlib.Numerals.{add-one}
 use lib.ListN.{length, drop}
 use borrow.Author.Rules.{rules}
-use Rattle.threads.specs.Table.{lowestFree}
-use Rattle.slots.proofs.Free.{free-past, free-here, free-none}
+use Rattle.threads.specs.Table.{lowest_free}
+use Rattle.slots.proofs.Free.{free_past, free_here, free_none}
 use Rattle.slots.proofs.table.lowest_free.Statement.{statement}
 use Rattle.slots.proofs.table.lowest_free.Tie as tie
 
 abbrev invariant-loop : tie.invariant-loop
-invariant-loop used i₀ i = (lowestFree used ≡ i + lowestFree (drop i used)) × (i ≤ 96) × (length used ≡ 96)
+invariant-loop used i₀ i = (lowest_free used ≡ i + lowest_free (drop i used)) × (i ≤ 96) × (length used ≡ 96)
 
 abbrev decreases-loop : tie.decreases-loop
 decreases-loop used i₀ i = 96 - i
@@ -32,20 +32,20 @@ loop-again : tie.Need-loop-preserved invariant-loop decreases-loop
 loop-again c =
     let l = c.before.before.before.loop in
     let u = c.before.before.before.before.args.used.now in
-    let p = free-past u l.i (omega (arith, l.invariant.2)) c.if1.true in
+    let p = free_past u l.i (omega (arith, l.invariant.2)) c.if1.true in
     (rw (add-one l.i) (omega (arith, l.invariant.0, p)), omega arith, l.invariant.2)
 
 returns : tie.Need-returns invariant-loop decreases-loop
 returns c =
     let l = c.before.before.before.loop in
     let u = c.before.before.before.before.args.used.now in
-    omega (arith, l.invariant.0, free-here u l.i (omega (arith, l.invariant.2)) c.if1.false)
+    omega (arith, l.invariant.0, free_here u l.i (omega (arith, l.invariant.2)) c.if1.false)
 
 returns-2 : tie.Need-returns-2 invariant-loop decreases-loop
 returns-2 c =
     let l = c.before.loop in
     let u = c.before.before.args.used.now in
-    omega (arith, l.invariant.0, free-none u l.i (omega (arith, l.invariant.2)))
+    omega (arith, l.invariant.0, free_none u l.i (omega (arith, l.invariant.2)))
 
 pub lowest-free-spec : {M : Type 1} → statement M
 lowest-free-spec =

@@ -1,5 +1,5 @@
 -- `slots::turn::carry_out` meets its contract. Assumes nothing.
-use Rattle.slots.specs.Turn.{turnBy}
+use Rattle.slots.specs.Turn.{turn_by}
 use borrow.Author.Rules.{rules}
 use Rattle.slots.proofs.turn.carry_out.Statement.{statement}
 use Rattle.slots.proofs.turn.carry_out.Tie as tie
@@ -29,7 +29,7 @@ enum-told-2 : tie.Need-enum-told-2
 enum-told-2 c = search rules
 
 returns : tie.Need-returns
-unfolding turnBy
+unfolding turn_by
 returns c =
     simp (
       ← c.after.ensures,
@@ -40,7 +40,7 @@ returns c =
     )
 
 returns-2 : tie.Need-returns-2
-unfolding turnBy
+unfolding turn_by
 returns-2 c =
     simp (
       ← c.fork.ensures,
@@ -48,7 +48,7 @@ returns-2 c =
     )
 
 returns-3 : tie.Need-returns-3
-unfolding turnBy
+unfolding turn_by
 returns-3 c = simp c.enum-told2.given.1
 
 pub carry-out-spec : {M : Type 1} → statement M

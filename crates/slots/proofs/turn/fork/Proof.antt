@@ -1,5 +1,5 @@
 -- `slots::turn::fork` meets its contract. Assumes nothing.
-use Rattle.slots.specs.Turn.{turnBy}
+use Rattle.slots.specs.Turn.{turn_by}
 use borrow.Author.Tests.{le-ltb, lt-ltb}
 use borrow.Author.Rules.{rules}
 use Rattle.slots.proofs.turn.fork.Statement.{statement}
@@ -9,7 +9,7 @@ lowest-free-requires : tie.Need-lowest-free-requires
 lowest-free-requires c κs = search rules
 
 returns : tie.Need-returns
-unfolding turnBy
+unfolding turn_by
 returns c =
     simp (
       lt-ltb _ _ c.if1.true,
@@ -20,7 +20,7 @@ keeps-requires : tie.Need-keeps-requires
 keeps-requires c κs = search rules
 
 returns-2 : tie.Need-returns-2
-unfolding turnBy
+unfolding turn_by
 returns-2 c =
     simp (
       ← c.keeps.ensures,

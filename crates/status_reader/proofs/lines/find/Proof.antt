@@ -5,7 +5,7 @@ use native.Mathlib.Omega.{arith}
 use borrow.Author.Rules.{rules}
 use lib.ListN.{length, drop}
 use Rattle.status.specs.Reading.{up_to}
-use Rattle.status_reader.proofs.LineLaws.{found_here, found-further, found_nowhere}
+use Rattle.status_reader.proofs.LineLaws.{found_here, found_further, found_nowhere}
 use Rattle.status_reader.proofs.lines.find.Statement.{statement}
 use Rattle.status_reader.proofs.lines.find.Tie as tie
 
@@ -37,7 +37,7 @@ loop-again : tie.Need-loop-preserved invariant-loop decreases-loop
 loop-again c =
     let l = c.before.before.before in
     let a = l.before.args in
-    (omega (arith, l.loop.invariant.0, found-further a.b l.loop.i a.text.now (omega arith) c.if1.false), omega arith)
+    (omega (arith, l.loop.invariant.0, found_further a.b l.loop.i a.text.now (omega arith) c.if1.false), omega arith)
 
 returns-2 : tie.Need-returns-2 invariant-loop decreases-loop
 returns-2 c =

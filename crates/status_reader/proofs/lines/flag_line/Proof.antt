@@ -3,9 +3,9 @@ use mathlib.Core.Path.{ap, ◌∙◌}
 use mathlib.Core.List.{[]}
 use borrow.Author.Rules.{rules}
 use lib.ListN.{drop}
-use Rattle.status.specs.Lines.{flagForm}
+use Rattle.status.specs.Lines.{flag_form}
 use Rattle.status.specs.Reading.{value_of}
-use Rattle.status_reader.proofs.LineLaws.{rest_of, last-value}
+use Rattle.status_reader.proofs.LineLaws.{rest_of, last_value}
 use Rattle.status_reader.proofs.lines.flag_line.Statement.{statement}
 use Rattle.status_reader.proofs.lines.flag_line.Tie as tie
 
@@ -22,7 +22,7 @@ enum_told : tie.Need-enum-told
 enum_told c = search rules
 
 returns : tie.Need-returns
-returns c = rw c.enum_told.given.1 at (c.before.before.values_of.ensures.0 flagForm [])
+returns c = rw c.enum_told.given.1 at (c.before.before.values_of.ensures.0 flag_form [])
 
 sub-decimal-value : tie.Need-overflow-sub-decimal-value
 sub-decimal-value c = rw c.before.p.given.1 at c.before.before.before.values_of.ensures.1
@@ -40,8 +40,8 @@ returns-2 : tie.Need-returns-2
 returns-2 c =
     let t = c.before.before.before.before.before.before.before.before.args.line.now in
     let p = c.before.before.before.p in
-    last-value flagForm (drop p.given.0.0 t) c.decimal-value.result (c.decimal-value.ensures ∙ ap (value_of flagForm) (rest_of p.given.0.0 t))
-    ∙ rw p.given.1 at (c.before.before.before.before.before.values_of.ensures.0 flagForm [])
+    last_value flag_form (drop p.given.0.0 t) c.decimal-value.result (c.decimal-value.ensures ∙ ap (value_of flag_form) (rest_of p.given.0.0 t))
+    ∙ rw p.given.1 at (c.before.before.before.before.before.values_of.ensures.0 flag_form [])
 
 pub flag-line-spec : {M : Type 1} → statement M
 flag-line-spec =

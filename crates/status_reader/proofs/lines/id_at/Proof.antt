@@ -4,9 +4,9 @@ use Prim.Native.Nat.{◌+◌}
 use native.Mathlib.Omega.{arith}
 use borrow.Author.Rules.{rules}
 use lib.ListN.{drop}
-use Rattle.status.specs.Lines.{idForm}
+use Rattle.status.specs.Lines.{id_form}
 use Rattle.status.specs.Reading.{tab}
-use Rattle.status_reader.proofs.LineLaws.{up-to-part, none_left, one_left, none-follows, not-followed, followed}
+use Rattle.status_reader.proofs.LineLaws.{up_to_part, none_left, one_left, none_follows, not_followed, followed}
 use Rattle.status_reader.proofs.lines.id_at.Statement.{statement}
 use Rattle.status_reader.proofs.lines.id_at.Tie as tie
 
@@ -16,7 +16,7 @@ find-requires c κs = search rules
 returns : tie.Need-returns
 returns c =
     let a = c.before.before.before.args in
-    ((λ f fs. sym (none-follows idForm f fs (drop a.at a.line.now) (none_left tab a.at c.before.find.result a.line.now c.before.find.ensures.0 (omega arith)))), tt)
+    ((λ f fs. sym (none_follows id_form f fs (drop a.at a.line.now) (none_left tab a.at c.before.find.result a.line.now c.before.find.ensures.0 (omega arith)))), tt)
 
 sub-decimal-value : tie.Need-overflow-sub-decimal-value
 sub-decimal-value c = search rules
@@ -42,8 +42,8 @@ returns-2 c =
     let t = a.line.now in
     let r = c.before.before.before.before.before.find in
     let v = c.before.before.decimal-value in
-    let told = rw (c.enum_told.given.1, up-to-part tab a.at r.result t r.ensures.0) at v.ensures in
-    ((λ f fs. sym (not-followed idForm f fs (drop a.at t) (drop (r.result + 1) t) (one_left tab a.at r.result t r.ensures.0 (omega arith)) told)), tt)
+    let told = rw (c.enum_told.given.1, up_to_part tab a.at r.result t r.ensures.0) at v.ensures in
+    ((λ f fs. sym (not_followed id_form f fs (drop a.at t) (drop (r.result + 1) t) (one_left tab a.at r.result t r.ensures.0 (omega arith)) told)), tt)
 
 add-t6 : tie.Need-overflow-add-t6
 add-t6 c = search rules
@@ -54,8 +54,8 @@ returns-3 c =
     let t = a.line.now in
     let r = c.before.before.before.before.before.before.find in
     let v = c.before.before.before.decimal-value in
-    let told = rw (c.before.value.given.1, up-to-part tab a.at r.result t r.ensures.0) at v.ensures in
-    ((λ f fs. sym (followed idForm f fs (drop a.at t) (drop (r.result + 1) t) c.before.value.given.0.0 (one_left tab a.at r.result t r.ensures.0 (omega arith)) told)), omega arith)
+    let told = rw (c.before.value.given.1, up_to_part tab a.at r.result t r.ensures.0) at v.ensures in
+    ((λ f fs. sym (followed id_form f fs (drop a.at t) (drop (r.result + 1) t) c.before.value.given.0.0 (one_left tab a.at r.result t r.ensures.0 (omega arith)) told)), omega arith)
 
 pub id-at-spec : {M : Type 1} → statement M
 id-at-spec =

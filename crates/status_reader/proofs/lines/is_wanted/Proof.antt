@@ -2,12 +2,12 @@
 use mathlib.Core.Path.{sym}
 use native.Mathlib.Omega.{arith}
 use borrow.Author.Rules.{rules}
-use Rattle.status_reader.proofs.LineLaws.{empty-line, wanted-set, wanted-ids, wanted-flag, wanted-other}
+use Rattle.status_reader.proofs.LineLaws.{empty_line, wanted_set, wanted_ids, wanted_flag, wanted_other}
 use Rattle.status_reader.proofs.lines.is_wanted.Statement.{statement}
 use Rattle.status_reader.proofs.lines.is_wanted.Tie as tie
 
 returns : tie.Need-returns
-returns c = sym (empty-line c.before.before.args.line.now (omega arith))
+returns c = sym (empty_line c.before.before.args.line.now (omega arith))
 
 shared-slice-read-b : tie.Need-shared-slice-read-b
 shared-slice-read-b c = search rules
@@ -46,7 +46,7 @@ returns-2 : tie.Need-returns-2
 returns-2 c =
     let t = c.before.before.before.before.before.before.before.before.before.before.before.before.before.before.args.line.now in
     rw (c.starts-with5.ensures, c.before.before.starts-with4.ensures, c.before.before.before.before.starts-with3.ensures, c.before.before.before.before.before.before.starts-with2.ensures, c.before.before.before.before.before.before.before.before.starts_with.ensures)
-    (sym (wanted-set t (omega arith) c.before.before.before.before.before.before.before.before.before.before.if2.true))
+    (sym (wanted_set t (omega arith) c.before.before.before.before.before.before.before.before.before.before.if2.true))
 
 slice-aggregate-starts-with-6 : tie.Need-slice-aggregate-starts-with-6
 slice-aggregate-starts-with-6 c = search rules
@@ -55,7 +55,7 @@ starts-with-requires-6 : tie.Need-starts-with-requires-6
 starts-with-requires-6 c κs = search rules
 
 returns-3 : tie.Need-returns-3
-returns-3 c = rw c.starts-with6.ensures (sym (wanted-ids c.before.before.before.before.before.before.before.args.line.now (omega arith) c.before.before.if3.true))
+returns-3 c = rw c.starts-with6.ensures (sym (wanted_ids c.before.before.before.before.before.before.before.args.line.now (omega arith) c.before.before.if3.true))
 
 slice-aggregate-starts-with-7 : tie.Need-slice-aggregate-starts-with-7
 slice-aggregate-starts-with-7 c = search rules
@@ -64,10 +64,10 @@ starts-with-requires-7 : tie.Need-starts-with-requires-7
 starts-with-requires-7 c κs = search rules
 
 returns-4 : tie.Need-returns-4
-returns-4 c = rw c.starts-with7.ensures (sym (wanted-flag c.before.before.before.before.before.before.before.before.args.line.now (omega arith) c.before.before.if4.true))
+returns-4 c = rw c.starts-with7.ensures (sym (wanted_flag c.before.before.before.before.before.before.before.before.args.line.now (omega arith) c.before.before.if4.true))
 
 returns-5 : tie.Need-returns-5
-returns-5 c = sym (wanted-other c.before.before.before.before.before.before.args.line.now (omega arith) c.before.before.if2.false c.before.if3.false c.if4.false)
+returns-5 c = sym (wanted_other c.before.before.before.before.before.before.args.line.now (omega arith) c.before.before.if2.false c.before.if3.false c.if4.false)
 
 pub is-wanted-spec : {M : Type 1} → statement M
 is-wanted-spec =

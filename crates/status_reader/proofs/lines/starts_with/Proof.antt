@@ -6,7 +6,7 @@ use borrow.Author.Rules.{rules}
 use borrow.Author.Tests.{eq-eqb, ne_eqb}
 use lib.ListN.{drop}
 use Rattle.format.specs.Line.{starts_with}
-use Rattle.format.proofs.Keys.{starts-step, starts-end}
+use Rattle.format.proofs.Keys.{starts_step, starts_end}
 use Rattle.status_reader.proofs.LineLaws.{too_short}
 use Rattle.status_reader.proofs.lines.starts_with.Statement.{statement}
 use Rattle.status_reader.proofs.lines.starts_with.Tie as tie
@@ -35,7 +35,7 @@ returns-2 c =
     let a = l.before.before.args in
     rw (
       l.loop.invariant.0,
-      starts-step a.name.now a.line.now l.loop.k l.loop.k (l.loop.k + 1) (omega arith) (omega arith) refl,
+      starts_step a.name.now a.line.now l.loop.k l.loop.k (l.loop.k + 1) (omega arith) (omega arith) refl,
       ne_eqb _ _ c.if2.true,
     )
 
@@ -51,14 +51,14 @@ loop-again c =
     let a = l.before.before.args in (
       rw (
         l.loop.invariant.0,
-        starts-step a.name.now a.line.now l.loop.k l.loop.k (l.loop.k + 1) (omega arith) (omega arith) refl,
+        starts_step a.name.now a.line.now l.loop.k l.loop.k (l.loop.k + 1) (omega arith) (omega arith) refl,
         eq-eqb _ _ c.if2.false,
       ),
       search rules,
     )
 
 returns-3 : tie.Need-returns-3 invariant-loop decreases-loop
-returns-3 c = rw c.before.loop.invariant.0 (sym (starts-end _ _ c.before.loop.k (omega arith)))
+returns-3 c = rw c.before.loop.invariant.0 (sym (starts_end _ _ c.before.loop.k (omega arith)))
 
 pub starts-with-spec : {M : Type 1} → statement M
 starts-with-spec =

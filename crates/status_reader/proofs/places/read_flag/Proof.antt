@@ -6,10 +6,10 @@ use native.Mathlib.Omega.{arith}
 use borrow.Author.Rules.{rules}
 use lib.ListN.{length}
 use Rattle.format.specs.Line.{mapped}
-use Rattle.status.specs.Lines.{Entry, flagEntry}
+use Rattle.status.specs.Lines.{Entry, flag_entry}
 use Rattle.status_reader.specs.declared.places.Number.{Number}
 use Rattle.status_reader.specs.Inside.{ahead}
-use Rattle.status_reader.proofs.PlaceLaws.{after-fault, fault-good, onward-good, number-there}
+use Rattle.status_reader.proofs.PlaceLaws.{after_fault, fault_good, onward_good, number_there}
 use Rattle.status_reader.proofs.places.read_flag.Statement.{statement}
 use Rattle.status_reader.proofs.places.read_flag.Tie as tie
 
@@ -45,8 +45,8 @@ returns c =
     let p = c.before.place.given.0.0 in
     let d = c.before.before.before.due-line in
     let f = rw c.before.place.given.1 at d.ensures.1 in
-    let e : Entry = flagEntry in
-    ((λ es. rw c.before.place.given.1 at (d.ensures.0 e es) ∙ ap (mapped (λ (vs : List ℕ). 0 ∷ vs)) (sym (after-fault a.text.now p es f))), fault-good p (length a.text.now) f)
+    let e : Entry = flag_entry in
+    ((λ es. rw c.before.place.given.1 at (d.ensures.0 e es) ∙ ap (mapped (λ (vs : List ℕ). 0 ∷ vs)) (sym (after_fault a.text.now p es f))), fault_good p (length a.text.now) f)
 
 returns-2 : tie.Need-returns-2
 returns-2 c =
@@ -56,12 +56,12 @@ returns-2 c =
     let d = c.before.before.before.before.before.before.due-line in
     let v = c.before.flag-line in
     let g = rw w.given.1 at d.ensures.1 in
-    let e : Entry = flagEntry in (
+    let e : Entry = flag_entry in (
       (λ es.
           rw w.given.1 at (d.ensures.0 e es)
-          ∙ number-there t w.given.0.0 e es v.result v.ensures
+          ∙ number_there t w.given.0.0 e es v.result v.ensures
           ∙ ap (λ (r : Number). mapped (λ vs. r.value ∷ vs) (ahead t r.place es)) (sym c.onward.ensures)),
-      rw c.onward.ensures (onward-good w.given.0.0 v.result (length t) g.0 g.1 g.2),
+      rw c.onward.ensures (onward_good w.given.0.0 v.result (length t) g.0 g.1 g.2),
     )
 
 pub read-flag-spec : {M : Type 1} → statement M

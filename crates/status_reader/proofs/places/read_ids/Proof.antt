@@ -6,11 +6,11 @@ use native.Mathlib.Omega.{arith}
 use borrow.Author.Rules.{rules}
 use lib.ListN.{length}
 use Rattle.format.specs.Line.{mapped}
-use Rattle.format.specs.Sheet.{idValues}
-use Rattle.status.specs.Lines.{idsEntry}
+use Rattle.format.specs.Sheet.{id_values}
+use Rattle.status.specs.Lines.{ids_entry}
 use Rattle.status_reader.specs.declared.places.Place.{Place}
 use Rattle.status_reader.specs.Inside.{ahead}
-use Rattle.status_reader.proofs.PlaceLaws.{after-fault, fault-good, past-good, ids-fault, ids-there}
+use Rattle.status_reader.proofs.PlaceLaws.{after_fault, fault_good, past_good, ids_fault, ids_there}
 use Rattle.status_reader.proofs.places.read_ids.Statement.{statement}
 use Rattle.status_reader.proofs.places.read_ids.Tie as tie
 
@@ -61,7 +61,7 @@ returns c =
     let p = c.before.place.given.0.0 in
     let d = c.before.before.before.due-line in
     let f = rw c.before.place.given.1 at d.ensures.1 in
-    ((λ es. rw c.before.place.given.1 at (d.ensures.0 idsEntry es) ∙ ap (mapped (λ (vs : List ℕ). none ++ vs)) (sym (after-fault a.text.now p es f))), fault-good p (length a.text.now) f)
+    ((λ es. rw c.before.place.given.1 at (d.ensures.0 ids_entry es) ∙ ap (mapped (λ (vs : List ℕ). none ++ vs)) (sym (after_fault a.text.now p es f))), fault_good p (length a.text.now) f)
 
 returns-2 : tie.Need-returns-2
 returns-2 c =
@@ -71,10 +71,10 @@ returns-2 c =
     let l = c.before.before.before.ids-line in
     let f = c.fault-at-line in (
       (λ es.
-          rw w.given.1 at (d.ensures.0 idsEntry es)
-          ∙ ids-fault t w.given.0.0 idsEntry es l.result none c.before.enum_told.given.1 l.ensures
+          rw w.given.1 at (d.ensures.0 ids_entry es)
+          ∙ ids_fault t w.given.0.0 ids_entry es l.result none c.before.enum_told.given.1 l.ensures
           ∙ ap (λ (p : Place). mapped (λ vs. none ++ vs) (ahead t p es)) (sym f.ensures)),
-      fault-good f.result (length t) (ap (λ (p : Place). p.fault) f.ensures),
+      fault_good f.result (length t) (ap (λ (p : Place). p.fault) f.ensures),
     )
 
 returns-3 : tie.Need-returns-3
@@ -86,10 +86,10 @@ returns-3 c =
     let i = c.before.before.ids in
     let g = rw w.given.1 at d.ensures.1 in (
       (λ es.
-          rw w.given.1 at (d.ensures.0 idsEntry es)
-          ∙ ids-there t w.given.0.0 idsEntry es l.result i.given.0.0 i.given.1 l.ensures
-          ∙ ap (λ (p : Place). mapped (λ vs. idValues i.given.0.0 ++ vs) (ahead t p es)) (sym c.past-line.ensures)),
-      rw c.past-line.ensures (past-good w.given.0.0 (length t) g.0 g.1 g.2),
+          rw w.given.1 at (d.ensures.0 ids_entry es)
+          ∙ ids_there t w.given.0.0 ids_entry es l.result i.given.0.0 i.given.1 l.ensures
+          ∙ ap (λ (p : Place). mapped (λ vs. id_values i.given.0.0 ++ vs) (ahead t p es)) (sym c.past-line.ensures)),
+      rw c.past-line.ensures (past_good w.given.0.0 (length t) g.0 g.1 g.2),
     )
 
 pub read-ids-spec : {M : Type 1} → statement M

@@ -6,7 +6,7 @@ use native.Mathlib.Omega.{arith}
 use borrow.Author.Rules.{rules}
 use Rattle.status.specs.Lines.{Entry}
 use Rattle.status_reader.specs.Inside.{from}
-use Rattle.status_reader.proofs.PlaceLaws.{passed_over, found-ahead, end-found}
+use Rattle.status_reader.proofs.PlaceLaws.{passed_over, found_ahead, end_found}
 use Rattle.status_reader.proofs.places.wanted_line.Statement.{statement}
 use Rattle.status_reader.proofs.places.wanted_line.Tie as tie
 
@@ -40,7 +40,7 @@ returns c =
     let t = c.before.before.before.before.before.before.before.args.text.now in
     let f = c.before.before.before.find in
     let w = sym c.before.is-wanted.ensures ∙ c.if1.true in
-    ((λ es. l.invariant.0 es ∙ found-ahead t l.i f.result (omega arith) f.ensures.0 l.passed es w), record { forward = omega (arith, f.ensures); within = omega (arith, f.ensures); lines = omega (arith, l.invariant.2); before = λ h. omega (arith, l.invariant.2) })
+    ((λ es. l.invariant.0 es ∙ found_ahead t l.i f.result (omega arith) f.ensures.0 l.passed es w), record { forward = omega (arith, f.ensures); within = omega (arith, f.ensures); lines = omega (arith, l.invariant.2); before = λ h. omega (arith, l.invariant.2) })
 
 add-i : tie.Need-overflow-add-i invariant-loop decreases-loop
 add-i c = search rules
@@ -63,7 +63,7 @@ returns-2 : tie.Need-returns-2 invariant-loop decreases-loop
 returns-2 c =
     let l = c.before.loop in
     let t = c.before.before.before.args.text.now in
-    ((λ es. l.invariant.0 es ∙ end-found t l.i _ l.passed es refl (omega arith)), record { forward = omega arith; within = omega arith; lines = omega (arith, l.invariant.1, l.invariant.2); before = λ h. absurd (omega arith) })
+    ((λ es. l.invariant.0 es ∙ end_found t l.i _ l.passed es refl (omega arith)), record { forward = omega arith; within = omega arith; lines = omega (arith, l.invariant.1, l.invariant.2); before = λ h. absurd (omega arith) })
 
 pub wanted-line-spec : {M : Type 1} → statement M
 wanted-line-spec =

@@ -6,18 +6,18 @@ use borrow.Author.Rules.{rules}
 use lib.ListN.{drop}
 use Rattle.format.specs.Line.{decimal}
 use Rattle.status.specs.Reading.{value_of}
-use Rattle.status_reader.proofs.ValueLaws.{decimalLeft, no-digits, first_good, first-none, first_above, further-good, further-above, further-zero, further-none, decimal-end}
+use Rattle.status_reader.proofs.ValueLaws.{decimal_left, no_digits, first_good, first_none, first_above, further_good, further_above, further_zero, further_none, decimal_end}
 use Rattle.status_reader.proofs.values.decimal_value.Statement.{statement}
 use Rattle.status_reader.proofs.values.decimal_value.Tie as tie
 
 abbrev invariant-loop : tie.invariant-loop
-invariant-loop part largest table n first v₀ k₀ v k = (value_of (decimal largest) part ≡ decimalLeft largest v (drop k part)) × (v ≤ largest)
+invariant-loop part largest table n first v₀ k₀ v k = (value_of (decimal largest) part ≡ decimal_left largest v (drop k part)) × (v ≤ largest)
 
 abbrev decreases-loop : tie.decreases-loop
 decreases-loop part largest table n first v₀ k₀ v k = n - k
 
 returns : tie.Need-returns invariant-loop decreases-loop
-returns c = let a = c.before.before.args in sym (no-digits a.largest a.part.now (omega arith))
+returns c = let a = c.before.before.args in sym (no_digits a.largest a.part.now (omega arith))
 
 shared-slice-read-digit : tie.Need-shared-slice-read-digit invariant-loop decreases-loop
 shared-slice-read-digit c = search rules
@@ -28,7 +28,7 @@ digit-requires c κs = search rules
 returns-2 : tie.Need-returns-2 invariant-loop decreases-loop
 returns-2 c =
     let a = c.before.before.before.before.before.args in
-    sym (first-none a.largest a.part.now (omega arith) (rw c.before.digit.ensures at c.if2.true))
+    sym (first_none a.largest a.part.now (omega arith) (rw c.before.digit.ensures at c.if2.true))
 
 returns-3 : tie.Need-returns-3 invariant-loop decreases-loop
 returns-3 c =
@@ -46,7 +46,7 @@ returns-4 : tie.Need-returns-4 invariant-loop decreases-loop
 returns-4 c =
     let l = c.before.before.loop in
     let a = c.before.before.before.before.before.before.before.before.before.args in
-    rw l.invariant.0 (sym (further-zero a.largest l.v l.k a.part.now (omega arith) c.if4.true))
+    rw l.invariant.0 (sym (further_zero a.largest l.v l.k a.part.now (omega arith) c.if4.true))
 
 shared-slice-read-digit-2 : tie.Need-shared-slice-read-digit-2 invariant-loop decreases-loop
 shared-slice-read-digit-2 c = search rules
@@ -58,7 +58,7 @@ returns-5 : tie.Need-returns-5 invariant-loop decreases-loop
 returns-5 c =
     let l = c.before.before.before.before.before.loop in
     let a = c.before.before.before.before.before.before.before.before.before.before.before.before.args in
-    rw l.invariant.0 (sym (further-none a.largest l.v l.k a.part.now (omega arith) (rw c.before.digit2.ensures at c.if5.true)))
+    rw l.invariant.0 (sym (further_none a.largest l.v l.k a.part.now (omega arith) (rw c.before.digit2.ensures at c.if5.true)))
 
 mul-w : tie.Need-overflow-mul-w invariant-loop decreases-loop
 mul-w c = search rules
@@ -71,7 +71,7 @@ returns-6 c =
     let l = c.before.before.before.before.before.before.loop in
     let a = c.before.before.before.before.before.before.before.before.before.before.before.before.before.args in
     let d = c.before.before.digit2.ensures in
-    rw l.invariant.0 (sym (further-above a.largest l.v l.k a.part.now (omega arith) (rw d at c.before.if5.false) (rw d at c.if6.true)))
+    rw l.invariant.0 (sym (further_above a.largest l.v l.k a.part.now (omega arith) (rw d at c.before.if5.false) (rw d at c.if6.true)))
 
 add-k : tie.Need-overflow-add-k invariant-loop decreases-loop
 add-k c = search rules
@@ -84,7 +84,7 @@ loop-again c =
     let l = c.before.before.before.before.before.before.loop in
     let a = c.before.before.before.before.before.before.before.before.before.before.before.before.before.args in
     let d = c.before.before.digit2.ensures in (
-      rw (l.invariant.0, d) (further-good a.largest l.v l.k a.part.now (omega arith) c.before.before.before.before.if4.false (rw d at c.before.if5.false) (rw d at c.if6.false)),
+      rw (l.invariant.0, d) (further_good a.largest l.v l.k a.part.now (omega arith) c.before.before.before.before.if4.false (rw d at c.before.if5.false) (rw d at c.if6.false)),
       search rules,
     )
 
@@ -92,7 +92,7 @@ returns-7 : tie.Need-returns-7 invariant-loop decreases-loop
 returns-7 c =
     let l = c.before.loop in
     let a = c.before.before.before.before.before.before.before.before.args in
-    rw l.invariant.0 (sym (decimal-end a.largest l.v l.k a.part.now (omega arith)))
+    rw l.invariant.0 (sym (decimal_end a.largest l.v l.k a.part.now (omega arith)))
 
 pub decimal-value-spec : {M : Type 1} → statement M
 decimal-value-spec =
