@@ -1,6 +1,8 @@
 // The code, the value, the cause and the state of a call's answer, as numbers for whoever prints or stores them.
 //
 // Every function is proved, for every argument: none has a `requires`. The crate assumes nothing.
+#![tactic(auto)]
+
 ghost use Rattle.std.specs.Prelude.{◌≡◌};
 ghost use Rattle.rules.specs.Answers.{after, cause, cause_number, code, value};
 

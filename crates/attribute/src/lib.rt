@@ -1,6 +1,8 @@
 // The file capability attribute, security.capability: a reader of versions 1 and 2 and a writer of version 2.
 //
 // Every function is proved, for every argument: no public one has a `requires`. The crate assumes nothing.
+#![tactic(auto)]
+
 mod reader;
 mod writer;
 
@@ -28,7 +30,7 @@ const WORD: u64 = 0x1_0000_0000;
 
 // A file's capabilities: whether an attribute is attached at all, its two sets and its effective bit. Where
 // none is attached the sets are empty and the bit is off.
-#[derive(Drop)]
+#[derive(Clone, Copy)]
 pub struct FileCapabilities {
     pub attached: bool,
     pub permitted: u64,
@@ -37,14 +39,14 @@ pub struct FileCapabilities {
 }
 
 // What the reader answers.
-#[derive(Drop)]
+#[derive(Clone, Copy)]
 pub enum Reading {
     File(FileCapabilities),
     Unreadable,
 }
 
 // What the writer answers: its code, and how many bytes it wrote, 0 where it refused.
-#[derive(Drop)]
+#[derive(Clone, Copy)]
 pub struct Written {
     pub code: u8,
     pub length: u32,

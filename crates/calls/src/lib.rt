@@ -2,6 +2,8 @@
 //
 // It alone can be called from outside, for it alone gives 72 and 22 before what a call's own rules refuse. Every function is proved, for
 // every argument: none has a `requires`. The crate assumes nothing.
+#![tactic(auto)]
+
 mod ambient;
 mod bounding;
 mod call;

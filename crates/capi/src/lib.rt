@@ -3,6 +3,8 @@
 //
 // In C a slice is a pointer and a length. No two slices of a call may overlap; any may be empty. The number is the code times 4294967296, plus a line,
 // a place, a length or a count. What a reader gives are 64-bit numbers, in a slice that the caller lends. The crate assumes nothing.
+#![tactic(auto)]
+
 ghost use Rattle.std.specs.Prelude.{◌≡◌, ◌++◌, ◌≤◌, length, drop};
 ghost use Rattle.attribute.specs.Reader.{reading};
 ghost use Rattle.format.specs.Sheet.{credentials_of, read_sheet, sheet_values};

@@ -2,6 +2,8 @@
 //
 // It is a crate of its own so that it is compiled by itself: in one object with the plan runner the calls would be a function of two callers, which is not
 // inlined, and a plan would take a third longer. The crate assumes nothing.
+#![tactic(auto)]
+
 ghost use Rattle.std.specs.Prelude.{◌≡◌, length};
 ghost use Rattle.format.specs.Report.{outcome, buffer, c_number};
 ghost use Rattle.slot_format.specs.SlotReport.{slot_verdict};

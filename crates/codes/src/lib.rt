@@ -1,6 +1,8 @@
 // The codes that come back, as the paper's table "What comes back" numbers them; the other crates have each from here.
 //
 // A code has 8 bits. The crate assumes nothing.
+#![tactic(auto)]
+
 ghost use Rattle.std.specs.Prelude.{◌≡◌, ◌<◌};
 
 // Done.

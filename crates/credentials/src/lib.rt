@@ -2,6 +2,8 @@
 //
 // All numbers are 64 bits wide, so that each clause of validity can fail. Every function is proved, for every
 // argument: none has a `requires`. The crate assumes nothing.
+#![tactic(auto)]
+
 pub mod securebits;
 mod validity;
 
@@ -11,7 +13,7 @@ pub use validity::{LARGEST_ID, LARGEST_SECUREBITS, is_valid};
 pub const NO_ID: u64 = 4294967295;
 
 // Four user IDs, or four group IDs.
-#[derive(Drop)]
+#[derive(Clone, Copy)]
 pub struct Ids {
     pub real: u64,
     pub effective: u64,
@@ -19,7 +21,7 @@ pub struct Ids {
     pub filesystem: u64,
 }
 
-#[derive(Drop)]
+#[derive(Clone, Copy)]
 pub struct Sets {
     pub permitted: u64,
     pub inheritable: u64,
@@ -29,7 +31,7 @@ pub struct Sets {
 }
 
 // nnp is no-new-privs.
-#[derive(Drop)]
+#[derive(Clone, Copy)]
 pub struct Credentials {
     pub uids: Ids,
     pub gids: Ids,

@@ -3,6 +3,8 @@
 // A table is made once, where a text comes in or goes out, and lent to every function below that reads or writes hex: a constant array is put on the
 // stack anew at each use. What such functions do with whatever table they are lent is defined here too, and with these tables that is the format. The
 // crate assumes nothing.
+#![tactic(auto)]
+
 ghost use Rattle.std.specs.Prelude.{◌≡◌};
 ghost use Rattle.hex_tables.specs.Tables.{reading_table, writing_table};
 

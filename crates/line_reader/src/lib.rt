@@ -4,6 +4,8 @@
 // gave, and the fault's line is known at the end. A key is handed in with its `=`, and what reads hex is lent a table of digits, whichever: with that of
 // `hex_tables` the text is read as the crate `format` defines it. Every function is proved, for every argument: no public one has a `requires`. The crate
 // assumes nothing.
+#![tactic(auto)]
+
 mod digits;
 mod lines;
 mod places;
@@ -18,7 +20,7 @@ const MOST_ATTRIBUTE: usize = 24;
 
 // Where a text is read to: the position past the lines that were read, and how many they are. Where one of them is at fault, its position, and
 // which line it is, counted from 1.
-#[derive(Drop)]
+#[derive(Clone, Copy)]
 pub struct Place {
     pub at: usize,
     pub lines: u32,
@@ -26,7 +28,7 @@ pub struct Place {
 }
 
 // A line's value, and the place past the line. Where there is a fault, the value is 0.
-#[derive(Drop)]
+#[derive(Clone, Copy)]
 pub struct Number {
     pub value: u64,
     pub place: Place,
@@ -34,7 +36,7 @@ pub struct Number {
 
 // An attribute's bytes, which are the first of the array, how many they are, and the place past their line. Where there is a fault, all bytes and
 // the size are 0.
-#[derive(Drop)]
+#[derive(Clone, Copy)]
 pub struct Attribute {
     pub place: Place,
     pub size: usize,

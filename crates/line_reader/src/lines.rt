@@ -8,7 +8,7 @@ use crate::digits::{decimal_digit, hex_digit};
 use crate::{MOST_ATTRIBUTE, NEWLINE};
 
 // A line's value and the position past the line, or that there is no such line.
-#[derive(Drop)]
+#[derive(Clone, Copy)]
 pub(crate) enum Line {
     Is(u64, usize),
     Fault,
@@ -16,7 +16,7 @@ pub(crate) enum Line {
 
 // An attribute's line: whether there is one, the position past it, and how many bytes it has, which are the first of the array. Everything else
 // is 0.
-#[derive(Drop)]
+#[derive(Clone, Copy)]
 pub(crate) struct Bytes {
     pub found: bool,
     pub next: usize,
@@ -25,7 +25,7 @@ pub(crate) struct Bytes {
 }
 
 // A number, or that some digit is none.
-#[derive(Drop)]
+#[derive(Clone, Copy)]
 enum Digits {
     Make(u64),
     No,

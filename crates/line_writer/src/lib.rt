@@ -3,6 +3,8 @@
 // A key is handed in with its `=`, and what writes hex is lent a table of digits, whichever: with that of `hex_tables` a line is written as the crate
 // `format` defines it. What does not fit is not written at all. Every function is proved, for every argument: no public one has a `requires`. The
 // crate assumes nothing.
+#![tactic(auto)]
+
 mod digits;
 mod lines;
 

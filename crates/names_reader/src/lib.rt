@@ -2,6 +2,8 @@
 //
 // A text is read clause by clause: whom a clause is about, then its operators. The form itself is defined in the crate `names`; the table that names are
 // found by and its index are made once and lent. Every function is proved, for every argument: no public one has a `requires`. The crate assumes nothing.
+#![tactic(auto)]
+
 ghost use Rattle.std.specs.Prelude.{◌≡◌};
 ghost use Rattle.names.specs.Reading.{read_text};
 ghost use Rattle.names_reader.specs.Inside.{padded, rows};
@@ -15,21 +17,21 @@ mod words;
 use names::{Reading, Sets};
 
 // A clause that was read: the sets and the position past it and the blank that ends it, or the place of a fault.
-#[derive(Drop)]
+#[derive(Clone, Copy)]
 pub(crate) enum Clause {
     Ended(Sets, usize),
     Stuck(usize),
 }
 
 // Whom a clause is about, with the position of its first operator, or the place of a fault.
-#[derive(Drop)]
+#[derive(Clone, Copy)]
 pub(crate) enum Subject {
     Of(u64, usize),
     Missing(usize),
 }
 
 // The number of the capability that a name means, with the position past the name, or the place of a fault.
-#[derive(Drop)]
+#[derive(Clone, Copy)]
 pub(crate) enum Name {
     Is(u64, usize),
     Missing(usize),

@@ -2,6 +2,8 @@
 //
 // The form itself is defined in the crate `names`; the table that names are written by is made once and lent. Every function is proved, for every
 // argument: no public one has a `requires`. The crate assumes nothing.
+#![tactic(auto)]
+
 ghost use Rattle.std.specs.Prelude.{◌≡◌, ◌≤◌, length};
 ghost use Rattle.std.proofs.lemmas.List.Edits.{sets};
 ghost use Rattle.names.specs.Names.{capability_names};

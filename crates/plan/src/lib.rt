@@ -2,6 +2,8 @@
 //
 // Plan and report are defined in the crate `format`, those of slots in `slot_format`; a step's result in `rules`, and that of a step in a slot in `threads`.
 // Every function is proved, for every argument: no public one has a `requires`. The crate assumes nothing.
+#![tactic(auto)]
+
 mod report;
 mod runner;
 mod slot_report;

@@ -17,7 +17,7 @@ use hex_tables::{reading_table, writing_table};
 use sheet_reader::Front;
 
 // How many steps there are and what the last one leaves, or the first line of the steps that is at fault.
-#[derive(Drop)]
+#[derive(Clone, Copy)]
 enum StepsRun {
     Done(usize, Credentials),
     Fault(u32),

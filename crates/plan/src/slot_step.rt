@@ -14,7 +14,7 @@ use slots::Turn;
 const LARGEST_SLOT: u32 = 99;
 
 // What the six lines of a step say, the attribute's bytes at the front of 24; and the place past them, or the first that is at fault.
-#[derive(Drop)]
+#[derive(Clone, Copy)]
 pub(crate) struct SlotLines {
     pub slot: u64,
     pub number: u64,

@@ -14,7 +14,7 @@ use line_reader::{Place, read_attribute, read_decimal, read_hex16};
 const LARGEST_CALL: u32 = 99;
 
 // A step's first four lines, and the place past them.
-#[derive(Drop)]
+#[derive(Clone, Copy)]
 pub(crate) struct Operands {
     pub number: u64,
     pub a: u64,
@@ -25,7 +25,7 @@ pub(crate) struct Operands {
 
 // What a step gives: its code, its cause, its value and the credentials after it. The two bytes stand together, so that no padding comes between the value
 // and the credentials: with some, copies of these are slow.
-#[derive(Drop)]
+#[derive(Clone, Copy)]
 pub(crate) struct StepResult {
     pub code: u8,
     pub cause: u8,
@@ -34,7 +34,7 @@ pub(crate) struct StepResult {
 }
 
 // A step's result and the position past the step, or the first of its lines that is at fault.
-#[derive(Drop)]
+#[derive(Clone, Copy)]
 pub(crate) enum StepRun {
     Done(StepResult, usize),
     Fault(u32),

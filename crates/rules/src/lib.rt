@@ -1,12 +1,14 @@
 // The rules of the twenty-two calls: the types of a call and of its answer here, the definitions in specs/.
 //
 // There are no functions: the crate `calls` has the code that meets these rules. The crate assumes nothing.
+#![tactic(auto)]
+
 use credentials::{Credentials, Ids};
 
 // What a call answers: done, with its value and the credentials after it, or refused: by the rules, with a cause (1), because number, operands and
 // attribute make no call (22), because the attribute cannot be read (60), or because the credentials given are not valid (72). A refusal leaves
 // them as they were. specs/Answers.antt gives the number, value, cause and state of each.
-#[derive(Drop)]
+#[derive(Clone, Copy)]
 pub enum Answer {
     Done { value: u64, after: Credentials },
     NotPermitted(Cause),
@@ -16,7 +18,7 @@ pub enum Answer {
 }
 
 // Why the rules refuse a call, in the order of the numbers 1 to 11 that specs/Answers.antt gives.
-#[derive(Drop)]
+#[derive(Clone, Copy)]
 pub enum Cause {
     // A capability that the call needs is not effective.
     CapabilityNotEffective,
@@ -43,7 +45,7 @@ pub enum Cause {
 }
 
 // A call by its name, with the operands that it uses, in the order of the numbers 1 to 22.
-#[derive(Drop)]
+#[derive(Clone, Copy)]
 pub enum Call {
     Execve {
         owner: u64,
@@ -114,14 +116,14 @@ pub enum Call {
 }
 
 // What an ID call makes of four IDs, user or group: the new ones, or that it may not make them so.
-#[derive(Drop)]
+#[derive(Clone, Copy)]
 pub enum NewIds {
     Allowed(Ids),
     NotAllowed,
 }
 
 // A number, operands and an attribute as a call, or that they make none.
-#[derive(Drop)]
+#[derive(Clone, Copy)]
 pub enum Decoded {
     Known(Call),
     Unknown,

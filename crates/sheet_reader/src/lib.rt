@@ -2,6 +2,8 @@
 //
 // The sheet itself is defined in the crate `format`; the table that its hex digits are read by is made once and lent. Every function is proved, for
 // every argument: no public one has a `requires`. The crate assumes nothing.
+#![tactic(auto)]
+
 ghost use Rattle.std.specs.Prelude.{◌≡◌, ℕ, List, [], ◌∷◌};
 ghost use Rattle.format.specs.Sheet.{id_kinds, set_kinds, flag_kinds, id_values, set_values, read_sheet, sheet_code, sheet_line};
 ghost use Rattle.line_reader.specs.Positions.{lines_by};
@@ -23,7 +25,7 @@ const SHEET_LINES: u32 = 15;
 
 // The sheet at the start of a text: its credentials and the position past it, told apart by whether they are valid; or the line of the first
 // fault.
-#[derive(Drop)]
+#[derive(Clone, Copy)]
 pub enum Front {
     Sheet(Credentials, usize),
     Invalid(Credentials, usize),
@@ -31,21 +33,21 @@ pub enum Front {
 }
 
 // Four IDs, and the place past their lines.
-#[derive(Drop)]
+#[derive(Clone, Copy)]
 struct IdLines {
     ids: Ids,
     place: Place,
 }
 
 // The sets, and the place past their lines.
-#[derive(Drop)]
+#[derive(Clone, Copy)]
 struct SetLines {
     sets: Sets,
     place: Place,
 }
 
 // Securebits and no-new-privs, and the place past their lines.
-#[derive(Drop)]
+#[derive(Clone, Copy)]
 struct FlagLines {
     securebits: u64,
     nnp: u64,

@@ -2,6 +2,8 @@
 //
 // The sheet itself is defined in the crate `format`; the table that its hex digits are written by is made once and lent. Every function is proved, for
 // every argument: no public one has a `requires`. The crate assumes nothing.
+#![tactic(auto)]
+
 ghost use Rattle.std.specs.Prelude.{◌≡◌, List, [], ◌∷◌, ℕ, ◌+◌, ◌≤◌, length};
 ghost use Rattle.attribute.specs.Writer.{refused};
 ghost use Rattle.format.specs.Line.{decimal_text};

@@ -2,3 +2,5 @@
 //
 // There are no functions: the crate `plan` has the code that reads and writes this format. What comes back for a slot plan has the types of `format`. The
 // crate assumes nothing.
+#![tactic(auto)]
+

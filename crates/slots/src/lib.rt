@@ -2,6 +2,8 @@
 //
 // The table, the step and what holds of them are defined in the crate `threads`. Every function is proved, for every argument: no public one has a
 // `requires`. The crate assumes nothing.
+#![tactic(auto)]
+
 mod decision;
 mod table;
 mod turn;

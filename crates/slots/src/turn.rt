@@ -14,7 +14,7 @@ use threads::{Decision, SlotResult, Threads};
 
 // What a step answers, and the credentials and the use mark that it stores in the slot `to`; a refusal stores what stands there. The three small fields
 // stand together, so that no padding comes before the credentials: with some, copies of these are slow.
-#[derive(Drop)]
+#[derive(Clone, Copy)]
 pub struct Turn {
     pub code: u8,
     pub cause: u8,

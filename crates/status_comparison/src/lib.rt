@@ -2,6 +2,8 @@
 //
 // The list itself is defined in the crate `status`; the table that its hex digits are written by is made once and lent. Every function is proved, for
 // every argument: no public one has a `requires`. The crate assumes nothing.
+#![tactic(auto)]
+
 ghost use Rattle.std.specs.Prelude.{◌≡◌, ◌+◌, ◌≤◌, length};
 ghost use Rattle.format.specs.Sheet.{id_values, set_values};
 ghost use Rattle.format.specs.Report.{buffer};

@@ -3,6 +3,8 @@
 // The seven wanted lines are read one after the other, each at the place past the last, and the lines between them are passed over. The form itself is
 // defined in the crate `status`; the table that digits are read by is made once and lent. Every function is proved, for every argument: no public one
 // has a `requires`. The crate assumes nothing.
+#![tactic(auto)]
+
 ghost use Rattle.std.specs.Prelude.{◌≡◌};
 ghost use Rattle.status.specs.Reading.{read_status};
 

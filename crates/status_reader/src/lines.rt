@@ -18,21 +18,21 @@ const LARGEST_WRITTEN_ID: u32 = 4294967295;
 const LARGEST_FLAG: u32 = 1;
 
 // Four IDs, or that the line is malformed.
-#[derive(Drop)]
+#[derive(Clone, Copy)]
 pub(crate) enum IdsLine {
     Are(Ids),
     Fault,
 }
 
 // Where the first value of a line begins, behind its name and a tab, or that it does not.
-#[derive(Drop)]
+#[derive(Clone, Copy)]
 enum Values {
     From(usize),
     Missing,
 }
 
 // An ID and where the next value begins, or that they do not stand there.
-#[derive(Drop)]
+#[derive(Clone, Copy)]
 enum Id {
     Is(u64, usize),
     Fault,

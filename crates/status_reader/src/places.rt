@@ -13,7 +13,7 @@ const NEWLINE: u8 = b'\n';
 
 // Where a text is read to: the position past the lines that were read or passed over, and how many they are. Where one is at fault, which line it is,
 // counted from 1.
-#[derive(Drop)]
+#[derive(Clone, Copy)]
 pub(crate) struct Place {
     pub at: usize,
     pub lines: usize,
@@ -21,7 +21,7 @@ pub(crate) struct Place {
 }
 
 // A wanted line: where it begins and where it ends, and how many lines stand before it. Where none is left it begins at the text's end.
-#[derive(Drop)]
+#[derive(Clone, Copy)]
 pub(crate) struct Wanted {
     pub from: usize,
     pub to: usize,
@@ -29,21 +29,21 @@ pub(crate) struct Wanted {
 }
 
 // The next wanted line, or the place of a fault: an earlier one, or that the line which is due does not come.
-#[derive(Drop)]
+#[derive(Clone, Copy)]
 enum Due {
     Line(Wanted),
     Fault(Place),
 }
 
 // A set or a flag, and the place past its line. Where there is a fault, it is 0.
-#[derive(Drop)]
+#[derive(Clone, Copy)]
 pub(crate) struct Number {
     pub value: u64,
     pub place: Place,
 }
 
 // Four IDs, and the place past their line. Where there is a fault, they are 0.
-#[derive(Drop)]
+#[derive(Clone, Copy)]
 pub(crate) struct Users {
     pub ids: Ids,
     pub place: Place,

@@ -12,7 +12,7 @@ use codes::wide;
 const SET_DIGITS: usize = 16;
 
 // A value, or that the part is none.
-#[derive(Drop)]
+#[derive(Clone, Copy)]
 pub(crate) enum Value {
     Is(u64),
     Fault,

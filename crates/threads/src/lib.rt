@@ -1,6 +1,8 @@
 // A table of 96 threads, in which they fork and exit: the types here, the definitions and the statements in specs/.
 //
 // There are no functions: the crate `slots` has the code that meets these rules. The crate assumes nothing.
+#![tactic(auto)]
+
 use credentials::Credentials;
 use rules::Answer;
 
@@ -13,7 +15,7 @@ pub struct Threads {
 
 // What a step is to do in a slot that is in use, as the slot's credentials decide: a call's answer, or a refusal; a fork or an exit that these
 // credentials and the operands do not refuse. specs/Step.antt says what becomes of the table.
-#[derive(Drop)]
+#[derive(Clone, Copy)]
 pub enum Decision {
     Answered(Answer),
     Forks,

@@ -1,6 +1,8 @@
 // The program: a plan on standard input, its report on standard output.
 //
 // A plan that is refused gets the two lines `code=` and `line=` instead.
+#![tactic(auto)]
+
 ghost use Rattle.std.specs.Prelude.{◌≡◌, ◌+◌, length};
 ghost use Rattle.format.specs.Longest.{longest_plan, longest_report};
 

@@ -1,6 +1,8 @@
 // The program for slot plans: a slot plan on standard input, its report on standard output.
 //
 // A slot plan that is refused gets the two lines `code=` and `line=` instead.
+#![tactic(auto)]
+
 ghost use Rattle.std.specs.Prelude.{◌≡◌, ◌+◌, length};
 ghost use Rattle.slot_format.specs.Longest.{longest_slot_plan, longest_slot_report};
 

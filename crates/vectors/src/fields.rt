@@ -14,7 +14,7 @@ const ROOM_FOR_HEX: u64 = 0x1000_0000_0000_0000;
 const ROOM_FOR_DECIMAL: u64 = 1844674407370955162;
 
 // A number of a row, and where it ends.
-#[derive(Drop)]
+#[derive(Clone, Copy)]
 pub(crate) struct Value {
     pub value: u64,
     pub end: usize,

@@ -5,6 +5,8 @@
 // A row is fields `key=value` or `key=value,value,..`, apart by spaces. Its first letter says what it is: `#` a remark, which is printed
 // and no more; `r` an attribute to be read; `w` one to be written; `t` a text in names to be read, up to the end of the line; `n` sets to be
 // written in names; `v` credentials, whether they are valid; `s` a step in a slot of a table of threads; else credentials and a call.
+#![tactic(auto)]
+
 mod attributes;
 mod fields;
 mod named;

@@ -80,7 +80,7 @@ fn text_of(row: &[u8], text: &mut [u8]) -> usize
 }
 
 // A byte of a text, and how many bytes of the row stand for it.
-#[derive(Drop)]
+#[derive(Clone, Copy)]
 struct Glyph {
     byte: u8,
     size: usize,

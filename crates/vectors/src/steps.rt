@@ -4,7 +4,7 @@ use crate::{fields, output, tables, thread};
 const FORK: u64 = 30;
 
 // The step of a row, and where it ends.
-#[derive(Drop)]
+#[derive(Clone, Copy)]
 struct Step {
     slot: u64,
     number: u64,

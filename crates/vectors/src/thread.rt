@@ -3,7 +3,7 @@ use crate::{fields, output};
 use credentials::{Credentials, Ids, Sets};
 
 // The credentials of a row, and where they end.
-#[derive(Drop)]
+#[derive(Clone, Copy)]
 pub(crate) struct Start {
     pub given: Credentials,
     pub end: usize,
@@ -33,7 +33,7 @@ pub(crate) fn start_of(row: &[u8], from: usize) -> Start {
 }
 
 // Four IDs of a row, and where they end.
-#[derive(Drop)]
+#[derive(Clone, Copy)]
 struct Four {
     given: Ids,
     end: usize,
@@ -57,7 +57,7 @@ fn ids_of(row: &[u8], from: usize) -> Four {
 }
 
 // The sets of a row, and where they end.
-#[derive(Drop)]
+#[derive(Clone, Copy)]
 struct Held {
     given: Sets,
     end: usize,

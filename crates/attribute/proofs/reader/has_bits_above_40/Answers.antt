@@ -1,0 +1,6 @@
+-- `attribute::reader::has_bits_above_40` meets its contract.
+use borrow.Author.Rules.{rules}
+use Rattle.attribute.proofs.reader.has_bits_above_40.Goals as goal
+
+pub returns : goal.returns
+returns c = c.outside.ensures

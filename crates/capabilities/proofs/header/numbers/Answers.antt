@@ -1,0 +1,8 @@
+-- `capabilities::header::numbers` meets its contract.
+use mathlib.Core.Path.{refl}
+use Rattle.capabilities.specs.Header.{header}
+use Rattle.capabilities.proofs.header.numbers.Goals as goal
+
+pub returns : goal.returns
+unfolding header
+returns c = refl

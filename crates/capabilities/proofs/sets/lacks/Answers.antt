@@ -1,0 +1,10 @@
+-- `capabilities::sets::lacks` meets its contract.
+use mathlib.Core.Path.{ap}
+use mathlib.Core.Bool.{not}
+use borrow.Author.Rules.{rules}
+use Rattle.capabilities.specs.Sets.{lacks}
+use Rattle.capabilities.proofs.sets.lacks.Goals as goal
+
+pub returns : goal.returns
+unfolding lacks
+returns c = ap not c.has.ensures

@@ -1,0 +1,8 @@
+-- `credentials::securebits::values` meets its contract.
+use Rattle.credentials.specs.Securebits.{header}
+use mathlib.Core.Path.{refl}
+use Rattle.credentials.proofs.securebits.values.Goals as goal
+
+pub returns : goal.returns
+unfolding header
+returns c = refl
