@@ -22,7 +22,7 @@ use Rattle.rules.proofs.OneLaunch.{one_launch}
 one_each : (start : Credentials) (steps : List Step) → length (run start steps) ≡ length steps
 unfolding run
 one_each start [] = refl
-one_each start (x ∷ xs) = ap suc (one_each _ xs)
+one_each start (x ∷ xs) = ap suc (one_each (result start x).after xs)
 
 run_append : (start : Credentials) (before rest : List Step) → run start (before ++ rest) ≡ run start before ++ run (left start before) rest
 unfolding run last_of

@@ -1,0 +1,6 @@
+-- `answers::after` meets its contract.
+use borrow.Author.Rules.{rules}
+use Rattle.answers.proofs.after.Goals as goal
+
+pub returns-in-Done : goal.returns-in-Done
+returns-in-Done c = simp c.in-Done.is

@@ -1,0 +1,8 @@
+-- `answers::value` meets its contract.
+use borrow.Author.Rules.{rules}
+use Rattle.answers.proofs.value.Goals as goal
+
+pub returns-in-Done : goal.returns-in-Done
+returns-in-Done c =
+    simp
+    c.in-Done.is

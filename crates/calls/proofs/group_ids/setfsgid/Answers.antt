@@ -1,0 +1,12 @@
+-- `calls::group_ids::setfsgid` meets its contract.
+use Rattle.rules.specs.Ids.{setfsgid}
+use Rattle.calls.proofs.group_ids.setfsgid.Goals as goal
+
+pub returns : goal.returns
+unfolding setfsgid
+returns c =
+    simp (
+      ← c.filesystem_group_id_changed.ensures,
+      ← c.setfsuid.ensures,
+      ← c.has-any.ensures,
+    )

@@ -1,0 +1,12 @@
+-- `calls::group_ids::setgid` meets its contract.
+use Rattle.rules.specs.Ids.{setgid}
+use Rattle.calls.proofs.group_ids.setgid.Goals as goal
+
+pub returns : goal.returns
+unfolding setgid
+returns c =
+    simp (
+      ← c.group_ids_changed.ensures,
+      ← c.setuid.ensures,
+      ← c.has-any.ensures,
+    )
