@@ -1,0 +1,10 @@
+-- `sheet_reader::read_ids` meets its contract.
+use Rattle.format.specs.Sheet.{id_kinds}
+use Rattle.line_reader.specs.Positions.{lines_at}
+use borrow.Author.Rules.{rules}
+use Rattle.sheet_reader.proofs.read_ids.Goals as goal
+
+pub returns : goal.returns
+unfolding lines_at id_kinds
+returns c =
+    λ table. simp (← c.read_decimal-filesystem.ensures, ← c.read_decimal-saved.ensures, ← c.read_decimal-effective.ensures, ← c.read_decimal-real.ensures)

@@ -1,0 +1,12 @@
+-- `sheet_writer::write_flags` meets its contract.
+use Rattle.rules.proofs.Flags.{cast_is_number}
+use Rattle.format.specs.Sheet.{flag_kinds}
+use Rattle.line_writer.specs.Inside.{lines_put}
+use borrow.Author.Rules.{rules}
+use Rattle.sheet_writer.proofs.write_flags.Goals as goal
+
+pub returns : goal.returns
+unfolding lines_put flag_kinds
+returns c =
+    let nnp = c.args.nnp in
+    rw (← c.write_hex-p.ensures.0, ← c.write_hex-p.ensures.1, ← (cast_is_number nnp)) c.write_decimal.ensures

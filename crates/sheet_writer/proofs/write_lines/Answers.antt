@@ -1,0 +1,10 @@
+-- `sheet_writer::write_lines` meets its contract.
+use Rattle.format.specs.Sheet.{uid_kinds, gid_kinds}
+use Rattle.sheet_writer.proofs.Groups.{sheet_put}
+use borrow.Author.Rules.{rules}
+use Rattle.sheet_writer.proofs.write_lines.Goals as goal
+
+pub returns : goal.returns
+unfolding uid_kinds gid_kinds
+returns c =
+    sheet_put _ _ _ _ _ _ _ _ _ _ _ _ (c.write_ids-p.ensures _) (c.write_ids-q.ensures _) c.write_sets-u.ensures c.write_flags.ensures
