@@ -21,7 +21,7 @@ use sheet_reader::Front;
 use threads::Threads;
 
 // Whether the steps are at fault, and the first of their lines that is; else how many steps there are, and the table that the last one leaves.
-#[derive(Drop)]
+#[derive(Clone, Copy)]
 struct SlotStepsRun {
     fault: bool,
     line: u32,

@@ -2,7 +2,7 @@
 ghost use Rattle.std.specs.Prelude.{◌≡◌, [], ◌∷◌, drop};
 ghost use Rattle.format.specs.Line.{mapped};
 ghost use Rattle.format.specs.Step.{step_kinds, read_step};
-ghost use Rattle.rules.specs.Run.{result};
+ghost use Rattle.rules.specs.Run.{result as step_result};
 ghost use Rattle.hex_tables.specs.Tables.{reading_table};
 ghost use Rattle.line_reader.specs.Positions.{lines_by};
 ghost use Rattle.plan.specs.Inside.{seen_step, StepEnd};
@@ -42,7 +42,7 @@ pub(crate) enum StepRun {
 
 // The lines of a call's number and its operands, by the table, at a place.
 pub(crate) fn read_operands(text: &[u8], place: Place, table: &[u8; 256]) -> Operands
-    ensures* { λ r. ⌜ lines_by table.now step_kinds text.now place ≡ record { values = r.number ∷ r.a ∷ r.b ∷ r.c ∷ []; place = r.place } ⌝ }
+    ensures { lines_by table.now step_kinds text.now place ≡ record { values = result.number ∷ result.a ∷ result.b ∷ result.c ∷ []; place = result.place } }
 {
     let number = read_decimal(text, place, b"call=", LARGEST_CALL);
     let a = read_hex16(text, number.place, b"a=", table);
@@ -61,7 +61,7 @@ pub(crate) fn read_operands(text: &[u8], place: Place, table: &[u8; 256]) -> Ope
 // The step at the position at, performed on the credentials held.
 pub(crate) fn run_step(text: &[u8], at: usize, held: Credentials, table: &[u8; 256]) -> StepRun
     requires { table.now ≡ reading_table }
-    ensures* { λ r. ⌜ (seen_step r text.now ≡ mapped (result held) (read_step (drop at text.now))) × StepEnd r ⌝ }
+    ensures { (seen_step result text.now ≡ mapped (step_result held) (read_step (drop at text.now))) × StepEnd result }
 {
     let start = Place {
         at,

@@ -7,7 +7,7 @@ use credentials::Credentials;
 use rules::Answer;
 
 // The threads of a machine: each slot's credentials, and whether the slot is in use. What a slot holds that is not in use shows nowhere.
-#[derive(Drop)]
+#[derive(Clone, Copy)]
 pub struct Threads {
     pub credentials: [Credentials; 96],
     pub used: [bool; 96],
@@ -23,7 +23,7 @@ pub enum Decision {
 }
 
 // What comes back from a step in a slot: code, cause, value, and the table after it.
-#[derive(Drop)]
+#[derive(Clone, Copy)]
 pub struct SlotResult {
     pub code: u8,
     pub cause: u8,

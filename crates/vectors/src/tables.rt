@@ -56,7 +56,7 @@ const INVALID: Credentials = Credentials {
 };
 
 // The table of a row, and where it ends.
-#[derive(Drop)]
+#[derive(Clone, Copy)]
 pub(crate) struct Given {
     pub table: Threads,
     pub end: usize,

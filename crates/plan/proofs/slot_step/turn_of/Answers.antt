@@ -1,0 +1,8 @@
+-- `plan::slot_step::turn_of` meets its contract.
+use mathlib.Core.Path.{◌∙◌}
+use native.Mathlib.Nat.{sub-zero}
+use borrow.Author.Rules.{rules}
+use Rattle.plan.proofs.slot_step.turn_of.Goals as goal
+
+pub returns : goal.returns
+returns c = c.take_turn.ensures ∙ rw sub-zero
