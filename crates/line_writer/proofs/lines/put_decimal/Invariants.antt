@@ -1,0 +1,17 @@
+-- `line_writer::lines::put_decimal`: what its loops keep, and why they end.
+use mathlib.Core.Path.{◌≡◌, refl, sym, ◌∙◌}
+use Prim.Native.Nat.{◌≤◌, ◌-◌}
+use native.Mathlib.Omega.{arith}
+use borrow.Author.Rules.{rules}
+use lib.ListN.{length, length-set}
+use lib.Seq.{sets}
+use Rattle.format.specs.Line.{decimal_text}
+use Rattle.format.proofs.Lengths.{length_more, length_some}
+use Rattle.line_writer.proofs.LineLaws.{put_decimal_digit, put_first_digit}
+use Rattle.line_writer.proofs.lines.put_decimal.Given as goal
+
+abbrev pub invariant-loop : goal.invariant-loop
+invariant-loop l = (sets l.initial.buf l.at (decimal_text l.v) ≡ sets l.buf l.at (decimal_text l.w)) × (l.m ≡ length (decimal_text l.w)) × (l.m ≤ l.n) × (length l.buf ≡ length l.initial.buf)
+
+abbrev pub decreases-loop : goal.decreases-loop
+decreases-loop l = l.w

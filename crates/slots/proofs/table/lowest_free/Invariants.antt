@@ -1,0 +1,16 @@
+-- `slots::table::lowest_free`: what its loops keep, and why they end.
+use Prim.Native.Nat.{◌≤◌, ◌+◌, ◌-◌}
+use mathlib.Core.Path.{◌≡◌}
+use native.Mathlib.Omega.{arith}
+use native.Mathlib.Numerals.{add-one}
+use lib.ListN.{length, drop}
+use borrow.Author.Rules.{rules}
+use Rattle.threads.specs.Table.{lowest_free}
+use Rattle.slots.proofs.Free.{free_past, free_here, free_none}
+use Rattle.slots.proofs.table.lowest_free.Given as goal
+
+abbrev pub invariant-loop : goal.invariant-loop
+invariant-loop l = (lowest_free l.used ≡ l.i + lowest_free (drop l.i l.used)) × (l.i ≤ 96) × (length l.used ≡ 96)
+
+abbrev pub decreases-loop : goal.decreases-loop
+decreases-loop l = 96 - l.i

@@ -1,0 +1,31 @@
+-- `slots::turn::step` meets its contract.
+use Prim.Native.Nat.{ℕ, ◌<◌}
+use mathlib.Core.Path.{◌≡◌, sym, ap, ◌∙◌, subst}
+use native.Mathlib.Omega.{arith}
+use Rattle.threads.specs.Table.{held}
+use Rattle.slots.specs.declared.turn.Turn.{Turn}
+use Rattle.slots.specs.Turn.{step_of, turn_of, stored}
+use Rattle.slots.proofs.Turns.{turns_stored}
+use borrow.Author.Rules.{rules}
+use Rattle.slots.proofs.turn.step.Goals as goal
+
+-- the slot that the turn is stored in is one of the 96
+stored-within : (c : tie.After-stored) → c.before.take-turn.result.to < 96
+stored-within c = subst (λ (t : Turn). t.to < 96) (sym c.before.take-turn.ensures) (turns_stored.within _ _ _ _)
+
+pub offset_bounds-next-to : goal.offset_bounds-next-to
+offset_bounds-next-to c = record { fits = omega (arith, stored-within c) }
+
+pub bounds-next-to : goal.bounds-next-to
+bounds-next-to c = stored-within c
+
+pub bounds-next-to-2 : goal.bounds-next-to-2
+bounds-next-to-2 c = stored-within c
+
+pub returns : goal.returns
+returns c =
+    let a = c.args in
+    let x = step_of a.number a.a a.b a.c a.attribute.now in
+    ap (stored a.t1) c.take_turn-given.ensures
+    ∙ ap (λ (n : ℕ). stored a.t1 (turn_of a.t1.used a.slot (held a.t1 n) x)) c.place-at.ensures.0
+    ∙ turns_stored.is-the-step a.t1 (record { slot = a.slot; step = x })
