@@ -9,8 +9,8 @@ use Rattle.format.proofs.Lengths.{length_more, length_one, length_some}
 use Rattle.line_writer.proofs.LineLaws.{length_64}
 use Rattle.line_writer.proofs.lines.decimal_length.Given as goal
 
-abbrev pub invariant-loop : goal.invariant-loop
-invariant-loop l = (length (decimal_text l.v) + 1 ≡ l.n + length (decimal_text l.w)) × (length (decimal_text l.v) ≤ 20)
+abbrev pub invariant-loop-w : goal.invariant-loop-w
+invariant-loop-w l = (length (decimal_text l.v) + 1 ≡ l.n + length (decimal_text l.w)) × (length (decimal_text l.v) ≤ 20)
 
-abbrev pub decreases-loop : goal.decreases-loop
-decreases-loop l = l.w
+abbrev pub decreases-loop-w : goal.decreases-loop-w
+decreases-loop-w l = l.w

@@ -9,8 +9,8 @@ use lib.Seq.{sets}
 use Rattle.line_writer.proofs.LineLaws.{put_byte, put_no_byte}
 use Rattle.line_writer.proofs.lines.put_bytes.Given as goal
 
-abbrev pub invariant-loop : goal.invariant-loop
-invariant-loop l = (sets l.initial.buf l.at l.src ≡ sets l.buf (l.at + l.k) (drop l.k l.src)) × (l.k ≤ l.n) × (length l.buf ≡ length l.initial.buf)
+abbrev pub invariant-loop-k : goal.invariant-loop-k
+invariant-loop-k l = (sets l.initial.buf l.at l.src ≡ sets l.buf (l.at + l.k) (drop l.k l.src)) × (l.k ≤ l.n) × (length l.buf ≡ length l.initial.buf)
 
-abbrev pub decreases-loop : goal.decreases-loop
-decreases-loop l = l.n - l.k
+abbrev pub decreases-loop-k : goal.decreases-loop-k
+decreases-loop-k l = l.n - l.k

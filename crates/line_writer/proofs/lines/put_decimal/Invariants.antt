@@ -10,8 +10,8 @@ use Rattle.format.proofs.Lengths.{length_more, length_some}
 use Rattle.line_writer.proofs.LineLaws.{put_decimal_digit, put_first_digit}
 use Rattle.line_writer.proofs.lines.put_decimal.Given as goal
 
-abbrev pub invariant-loop : goal.invariant-loop
-invariant-loop l = (sets l.initial.buf l.at (decimal_text l.v) ≡ sets l.buf l.at (decimal_text l.w)) × (l.m ≡ length (decimal_text l.w)) × (l.m ≤ l.n) × (length l.buf ≡ length l.initial.buf)
+abbrev pub invariant-loop-w : goal.invariant-loop-w
+invariant-loop-w l = (sets l.initial.buf l.at (decimal_text l.v) ≡ sets l.buf l.at (decimal_text l.w)) × (l.m ≡ length (decimal_text l.w)) × (l.m ≤ l.n) × (length l.buf ≡ length l.initial.buf)
 
-abbrev pub decreases-loop : goal.decreases-loop
-decreases-loop l = l.w
+abbrev pub decreases-loop-w : goal.decreases-loop-w
+decreases-loop-w l = l.w

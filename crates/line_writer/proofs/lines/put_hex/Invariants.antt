@@ -9,8 +9,8 @@ use Rattle.hex_tables.specs.Tables.{hex_text_by}
 use Rattle.line_writer.proofs.LineLaws.{put_hex_digit, put_no_hex}
 use Rattle.line_writer.proofs.lines.put_hex.Given as goal
 
-abbrev pub invariant-loop : goal.invariant-loop
-invariant-loop l = (sets l.initial.buf l.at (hex_text_by l.table l.n l.v) ≡ sets l.buf l.at (hex_text_by l.table l.m l.w)) × (l.m ≤ l.n) × (length l.buf ≡ length l.initial.buf)
+abbrev pub invariant-loop-m : goal.invariant-loop-m
+invariant-loop-m l = (sets l.initial.buf l.at (hex_text_by l.table l.n l.v) ≡ sets l.buf l.at (hex_text_by l.table l.m l.w)) × (l.m ≤ l.n) × (length l.buf ≡ length l.initial.buf)
 
-abbrev pub decreases-loop : goal.decreases-loop
-decreases-loop l = l.m
+abbrev pub decreases-loop-m : goal.decreases-loop-m
+decreases-loop-m l = l.m

@@ -8,10 +8,10 @@ use borrow.Author.Rules.{rules}
 use Rattle.line_writer.proofs.lines.write_decimal.Goals as goal
 
 pub overflow_add-size : goal.overflow_add-size
-overflow_add-size c = omega (arith, c.decimal_length-digits.ensures.1, c.well-formed.0)
+overflow_add-size c = omega (arith, c.decimal_length-digits.ensures.1, c.well_formed.0)
 
 pub overflow_add-size-2 : goal.overflow_add-size-2
-overflow_add-size-2 c = omega (arith, c.decimal_length-digits.ensures.1, c.well-formed.0)
+overflow_add-size-2 c = omega (arith, c.decimal_length-digits.ensures.1, c.well_formed.0)
 
 pub returns-then-len-size : goal.returns-then-len-size
 returns-then-len-size c =

@@ -9,8 +9,8 @@ use Rattle.threads.specs.Table.{lowest_free}
 use Rattle.slots.proofs.Free.{free_past, free_here, free_none}
 use Rattle.slots.proofs.table.lowest_free.Given as goal
 
-abbrev pub invariant-loop : goal.invariant-loop
-invariant-loop l = (lowest_free l.used ≡ l.i + lowest_free (drop l.i l.used)) × (l.i ≤ 96) × (length l.used ≡ 96)
+abbrev pub invariant-loop-i : goal.invariant-loop-i
+invariant-loop-i l = (lowest_free l.used ≡ l.i + lowest_free (drop l.i l.used)) × (l.i ≤ 96) × (length l.used ≡ 96)
 
-abbrev pub decreases-loop : goal.decreases-loop
-decreases-loop l = 96 - l.i
+abbrev pub decreases-loop-i : goal.decreases-loop-i
+decreases-loop-i l = 96 - l.i

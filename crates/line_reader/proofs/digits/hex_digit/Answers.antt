@@ -1,0 +1,6 @@
+-- `line_reader::digits::hex_digit` meets its contract.
+use Rattle.std.proofs.Common.{◌∙◌, rules, lt-ltb}
+use Rattle.line_reader.proofs.digits.hex_digit.Goals as goal
+
+pub returns : goal.returns
+returns c = c.wide.ensures.0 ∙ rw (lt-ltb _ 256 c.ranges.b.fits)
