@@ -1,0 +1,10 @@
+-- `status_comparison::ids_length` meets its contract.
+use native.Mathlib.Omega.{arith}
+use Rattle.status_comparison.proofs.Laws.{ids_length}
+use borrow.Author.Rules.{rules}
+use Rattle.status_comparison.proofs.ids_length.Goals as goal
+
+pub returns : goal.returns
+returns c =
+    let a = c.args in
+    omega (arith, ids_length a.predicted a.found)
