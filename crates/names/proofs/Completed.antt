@@ -1,8 +1,8 @@
 -- Every state of the reading can be completed, and so the place is that of the longest beginning. Assumes nothing.
-use mathlib.Core.Path.{◌≡◌, refl}
+use mathlib.Core.Path.{◌≡◌, refl, ap}
 use mathlib.Core.List.{List, [], ◌∷◌, ◌++◌}
 use mathlib.Core.Bool.{Bool, true, false, cond, ◌&&◌}
-use Prim.Native.Nat.{ℕ, zero, suc, ◌+◌, ◌≤◌, ◌<◌}
+use Prim.Native.Nat.{ℕ, zero, suc, ◌≤◌, ◌<◌}
 use native.Mathlib.Omega.{arith}
 use borrow.Author.Tests.{eq-eqb, leb-true}
 use lib.Dec.{leb, eqb}
@@ -82,7 +82,7 @@ complete : (k : ℕ) (ks : List ℕ) (m : ℕ) (j : Bool) (xs : List Word) (c : 
 unfolding step after tidy high
 complete k ks m j xs c s h =
     let g : 95 ≤ k = leb-true 95 k (and_l (leb 95 k) (high ks) (and_l (leb 95 k && high ks) (tidy xs) h)) in
-    rw (lower_high k g, eq-eqb k k refl)
+    rw (lower_high k g, eq-eqb k k refl) (ap (λ (b : ℕ). go (word (spelt ks m j ∷ after b xs) c s)) (lower_high k g))
 
 complete_end : (m : ℕ) (j : Bool) (xs : List Word) (c : ℕ) (s : Sets) → tidy xs ≡ true
     → step (word (spelt [] m j ∷ xs) c s) equals ≡ go (operated true true (union c m) (without (union c m) s))

@@ -3,7 +3,7 @@ use mathlib.Core.Path.{◌≡◌, refl, sym, ap, ◌∙◌}
 use mathlib.Core.Logic.{◌⊎◌, inl, inr}
 use mathlib.Core.List.{List, [], ◌∷◌, ◌++◌, append_assoc, append-nil}
 use mathlib.Core.Bool.{Bool, true, false, cond, ◌&&◌}
-use Prim.Native.Nat.{ℕ, ◌+◌}
+use Prim.Native.Nat.{ℕ}
 use native.Mathlib.Omega.{arith}
 use borrow.Author.Tests.{eqb-true}
 use lib.Dec.{eqb}
@@ -110,9 +110,11 @@ operate_put : (c : ℕ) (s : Sets) (t : List ℕ) (v : Sets) → Flagging true t
 operate_put c s t v f = operate c s f.mid (equals ∷ f.front) f.rest (equals ∷ t) v (ap (λ (l : List ℕ). equals ∷ l) f.split) (put f.flags) f.onward
 
 operate_give : (c : ℕ) (s mid : Sets) (front rest t : List ℕ) (v : Sets) → t ≡ front ++ rest → Flags true c s front mid → Some false front → Onward c mid rest v → Operating c s (plus ∷ t) v
+operate_give c s mid [] rest t v e f n a = elim n [ ]
 operate_give c s mid (b ∷ front) rest t v e f n a = operate c s mid (plus ∷ b ∷ front) rest (plus ∷ t) v (ap (λ (l : List ℕ). plus ∷ l) e) (give f) a
 
 operate_take : (c : ℕ) (s mid : Sets) (front rest t : List ℕ) (v : Sets) → t ≡ front ++ rest → Flags false c s front mid → Some false front → Onward c mid rest v → Operating c s (dash ∷ t) v
+operate_take c s mid [] rest t v e f n a = elim n [ ]
 operate_take c s mid (b ∷ front) rest t v e f n a = operate c s mid (dash ∷ b ∷ front) rest (dash ∷ t) v (ap (λ (l : List ℕ). dash ∷ l) e) (take f) a
 
 operator_after : (c : ℕ) (s : Sets) (b : ℕ) (t : List ℕ) (v : Sets) → AfterStep (operator c s b) t v → Operating c s (b ∷ t) v

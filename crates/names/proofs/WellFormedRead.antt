@@ -3,7 +3,7 @@ use mathlib.Core.Path.{◌≡◌, refl}
 use mathlib.Core.Logic.{inl, inr}
 use mathlib.Core.List.{List, [], ◌∷◌, ◌++◌, append_assoc, append-nil}
 use mathlib.Core.Bool.{Bool, true, false, ◌||◌}
-use Prim.Native.Nat.{ℕ, ◌+◌, ◌≤◌, ◌<◌}
+use Prim.Native.Nat.{ℕ, ◌≤◌, ◌<◌}
 use native.Mathlib.Omega.{arith}
 use native.Mathlib.Decide.{dec_lt}
 use borrow.Author.Tests.{ne_eqb, eqb-true, lt-ltb}
@@ -70,11 +70,11 @@ operator_run x c s v t u w o (give {b = b} {t = t'} fs) r =
 operator_run x c s v t u w o (take {b = b} {t = t'} fs) r =
     runs x (operated false false c s) dash ((b ∷ t') ++ u) w o.2 (some_run false c s v b t' u w fs (r false))
 
-operators_run : (x : State) (c : ℕ) (s v : Sets) (t u : List ℕ) (w : Sets) → Operates x c s → Operators c s t v
+operators_run : (c : ℕ) (x : State) (s v : Sets) (t u : List ℕ) (w : Sets) → Operates x c s → Operators c s t v
     → ((g : Bool) → run (operated g true c v) u ≡ Means w) → run x (t ++ u) ≡ Means w
-operators_run x c s v t u w o (last a) r = operator_run x c s v t u w o a r
-operators_run x c s v t u w o (more {v = mid} {t = t'} {u = u'} a rest) r =
-    rw (append_assoc t' u' u) (operator_run x c s mid t' (u' ++ u) w o a (λ g. operators_run (operated g true c mid) c mid v u' u w (operated_operates g c mid) rest r))
+operators_run c x s v t u w o (last a) r = operator_run x c s v t u w o a r
+operators_run c x s v t u w o (more {v = mid} {t = t'} {u = u'} a rest) r =
+    rw (append_assoc t' u' u) (operator_run x c s mid t' (u' ++ u) w o a (λ g. operators_run c (operated g true c mid) mid v u' u w (operated_operates g c mid) rest r))
 
 -- ---- names
 
@@ -130,16 +130,16 @@ clause_run s v t u w (named {c = c} {t = t'} {u = u'} ns operating) k =
     rw (append_assoc t' u' u)
     (gap_as_word s (t' ++ (u' ++ u)) w
     (names_run (every ∷ names) (λ x g. unfold ◌among◌ in inr g) alone_first 0 c s t' (u' ++ u) w ns
-    (λ x o. operators_run x c s v u' u w o operating (λ g. k g c))))
+    (λ x o. operators_run c x s v u' u w o operating (λ g. k g c))))
 clause_run s v t u w (whole {u = u'} t' e operating) k =
     let h : spelt (lowered t') full false among (every ∷ names) = unfold ◌among◌ in inl (same_word t' e) in
     rw (append_assoc t' u' u)
     (gap_as_word s (t' ++ (u' ++ u)) w
     (word_run t' full false (every ∷ names) 0 s (u' ++ u) w h
     (rw (alone_first (lowered t') full false h)
-    (operators_run (word (spelt [] full false ∷ []) 0 s) full s v u' u w (word_operates full false 0 s) operating (λ g. k g full)))))
+    (operators_run full (word (spelt [] full false ∷ []) 0 s) s v u' u w (word_operates full false 0 s) operating (λ g. k g full)))))
 clause_run s v t u w (unnamed {t = t'} operating) k =
-    put_run s (t' ++ u) w (operators_run (operated true true full s) full s v (equals ∷ t') u w (operated_operates true full s) operating (λ g. k g full))
+    put_run s (t' ++ u) w (operators_run full (operated true true full s) s v (equals ∷ t') u w (operated_operates true full s) operating (λ g. k g full))
 
 -- a blank is one of three bytes
 pub blank_is : (P : ℕ → Type 0) → P 32 → P 9 → P 10 → (b : ℕ) → blank b ≡ true → P b

@@ -3,7 +3,6 @@
 // There are no functions: the crates `names_reader` and `names_writer` have the code that reads and writes this form. The crate assumes nothing.
 #![tactic(auto)]
 
-
 // The three sets that a text stands for.
 #[derive(Clone, Copy)]
 pub struct Sets {

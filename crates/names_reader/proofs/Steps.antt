@@ -19,14 +19,6 @@ use Rattle.names.specs.Grammar.{lower, blank, flag, equals, plus, dash, flagged,
 use Rattle.names.specs.Reading.{every, after, State, gap, word, operated, Step, go, stuck, finish, later, told, operator, past, within, step, run}
 use Rattle.names_reader.specs.Inside.{from, read_at, operates, begun}
 
-pub not_true : (b : Bool) → not b ≡ true → b ≡ false
-not_true true h = sym h
-not_true false h = refl
-
-pub not_false : (b : Bool) → not b ≡ false → b ≡ true
-not_false true h = refl
-not_false false h = sym h
-
 from_later : (i : ℕ) (r : Reading) → from i (later r) ≡ from (i + 1) r
 from_later i (Means s) = refl
 from_later i (Malformed n) = let e : i + suc n ≡ i + 1 + n = omega arith in rw e
