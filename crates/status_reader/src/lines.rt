@@ -99,7 +99,7 @@ pub(crate) fn is_wanted(line: &[u8]) -> bool
 
 // Where the first value of the line of a name begins.
 fn values_of(line: &[u8], name: &[u8]) -> Values
-    ensures { ((f : Form) (fs : List Form) → part_read result line.now f fs ≡ read_entry (record { name = name.entry.now; forms = f ∷ fs }) line.now) × PartWithin result (length line.now) }
+    ensures { ((f : Form) (fs : List Form) → part_read result line.now f fs ≡ read_entry (record { name = name.now; forms = f ∷ fs }) line.now) × PartWithin result (length line.now) }
 {
     if starts_with(line, name) {
         let n = name.len();
@@ -115,7 +115,7 @@ fn values_of(line: &[u8], name: &[u8]) -> Values
 // The set of the line of a name.
 pub(crate) fn set_line(line: &[u8], name: &[u8], table: &[u8; 256]) -> Value
     requires { table.now ≡ reading_table }
-    ensures { line_read result ≡ read_entry (record { name = name.entry.now; forms = set_form ∷ [] }) line.now }
+    ensures { line_read result ≡ read_entry (record { name = name.now; forms = set_form ∷ [] }) line.now }
 {
     let Values::From(p) = values_of(line, name) else {
         return Value::Fault;

@@ -135,7 +135,7 @@ fn onward(line: Wanted, value: Value) -> Number
 // The set of the line of a name, which is due.
 pub(crate) fn read_set(text: &[u8], place: Place, name: &[u8], table: &[u8; 256]) -> Number
     requires { (table.now ≡ reading_table) × Good place (length text.now) }
-    ensures { NumberAhead result text.now place (record { name = name.entry.now; forms = set_form ∷ [] }) × Good result.place (length text.now) }
+    ensures { NumberAhead result text.now place (record { name = name.now; forms = set_form ∷ [] }) × Good result.place (length text.now) }
 {
     match due_line(text, place) {
         Due::Fault(place) => Number { value: 0, place },
