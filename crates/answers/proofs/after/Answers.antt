@@ -1,4 +1,4 @@
--- `answers::after` meets its contract.
+-- `answers::after` meets its contract. Assumes nothing.
 use borrow.Author.Rules.{rules}
 use Rattle.answers.proofs.after.Goals as goal
 

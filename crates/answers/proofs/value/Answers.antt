@@ -1,4 +1,4 @@
--- `answers::value` meets its contract.
+-- `answers::value` meets its contract. Assumes nothing.
 use borrow.Author.Rules.{rules}
 use Rattle.answers.proofs.value.Goals as goal
 

@@ -1,4 +1,4 @@
--- `hex_tables::reading_table` meets its contract.
+-- `hex_tables::reading_table` meets its contract: all 256 entries are computed from `hex_digit` and compared. Assumes nothing.
 use mathlib.Core.Path.{refl}
 use Rattle.hex_tables.specs.Tables.{tabulated, reading_table}
 use Rattle.hex_tables.proofs.reading_table.Goals as goal

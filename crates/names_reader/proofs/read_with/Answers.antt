@@ -1,4 +1,4 @@
--- `names_reader::read_with` meets its contract.
+-- `names_reader::read_with` meets its contract. Assumes nothing.
 use mathlib.Core.Path.{◌≡◌, sym, ◌∙◌}
 use native.Mathlib.Omega.{arith}
 use lib.ListN.{get_or}

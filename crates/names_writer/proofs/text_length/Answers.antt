@@ -1,4 +1,4 @@
--- `names_writer::text_length` meets its contract.
+-- `names_writer::text_length` meets its contract. Assumes nothing.
 use mathlib.Core.Path.{ap, ◌∙◌}
 use native.Mathlib.Omega.{arith}
 use lib.ListN.{length, drop, drop_of_length-le}

@@ -1,4 +1,4 @@
--- `names_writer::write_names` meets its contract.
+-- `names_writer::write_names` meets its contract. Assumes nothing.
 use mathlib.Core.Path.{sym, ◌∙◌}
 use native.Mathlib.Omega.{arith}
 use Rattle.names_writer.proofs.Texts.{above, no_room, is_written}

@@ -1,4 +1,4 @@
--- `sheet_reader::judged` meets its contract.
+-- `sheet_reader::judged` meets its contract. Assumes nothing.
 use Rattle.sheet_reader.specs.Positions.{judged}
 use Rattle.sheet_reader.proofs.judged.Goals as goal
 

@@ -1,4 +1,4 @@
--- `sheet_reader::read_flags` meets its contract.
+-- `sheet_reader::read_flags` meets its contract. Assumes nothing.
 use Rattle.format.specs.Sheet.{flag_kinds}
 use Rattle.line_reader.specs.Positions.{lines_at}
 use borrow.Author.Rules.{rules}

@@ -1,4 +1,4 @@
--- `sheet_reader::read_front` meets its contract.
+-- `sheet_reader::read_front` meets its contract. Assumes nothing.
 use mathlib.Core.Path.{◌∙◌}
 use Rattle.format.specs.Sheet.{uid_kinds, gid_kinds}
 use Rattle.sheet_reader.proofs.Groups.{users_at_fault, groups_at_fault, sets_at_fault, front_at_fault, front_read}

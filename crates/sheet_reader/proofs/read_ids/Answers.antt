@@ -1,4 +1,4 @@
--- `sheet_reader::read_ids` meets its contract.
+-- `sheet_reader::read_ids` meets its contract. Assumes nothing.
 use Rattle.format.specs.Sheet.{id_kinds}
 use Rattle.line_reader.specs.Positions.{lines_at}
 use borrow.Author.Rules.{rules}

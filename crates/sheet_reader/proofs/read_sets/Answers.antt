@@ -1,4 +1,4 @@
--- `sheet_reader::read_sets` meets its contract.
+-- `sheet_reader::read_sets` meets its contract. Assumes nothing.
 use Rattle.format.specs.Sheet.{set_kinds}
 use Rattle.line_reader.specs.Positions.{lines_at}
 use borrow.Author.Rules.{rules}

@@ -1,4 +1,4 @@
--- `sheet_reader::read_sheet` meets its contract.
+-- `sheet_reader::read_sheet` meets its contract. Assumes nothing.
 use mathlib.Core.Path.{◌∙◌}
 use Rattle.sheet_reader.proofs.Format.{front_is}
 use Rattle.sheet_reader.proofs.Whole.{front_told, front_told_invalid, sheet_fault, sheet_longer, sheet_whole, sheet_invalid}

@@ -1,4 +1,4 @@
--- `sheet_writer::ids_length` meets its contract.
+-- `sheet_writer::ids_length` meets its contract. Assumes nothing.
 use native.Mathlib.Omega.{arith}
 use Rattle.sheet_writer.proofs.ids_length.Goals as goal
 

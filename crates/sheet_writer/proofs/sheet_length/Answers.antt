@@ -1,4 +1,4 @@
--- `sheet_writer::sheet_length` meets its contract.
+-- `sheet_writer::sheet_length` meets its contract. Assumes nothing.
 use native.Mathlib.Omega.{arith}
 use Rattle.sheet_writer.proofs.Groups.{length_of_sheet}
 use Rattle.sheet_writer.proofs.sheet_length.Goals as goal

@@ -1,4 +1,4 @@
--- `sheet_writer::write_at` meets its contract.
+-- `sheet_writer::write_at` meets its contract. Assumes nothing.
 use mathlib.Core.Path.{sym, ◌∙◌}
 use native.Mathlib.Omega.{arith}
 use Rattle.sheet_writer.proofs.Answers.{sheet_written, sheet_no_room, sheet_invalid}

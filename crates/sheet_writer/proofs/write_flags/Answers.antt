@@ -1,4 +1,4 @@
--- `sheet_writer::write_flags` meets its contract.
+-- `sheet_writer::write_flags` meets its contract. Assumes nothing.
 use Rattle.rules.proofs.Flags.{cast_is_number}
 use Rattle.format.specs.Sheet.{flag_kinds}
 use Rattle.line_writer.specs.Inside.{lines_put}

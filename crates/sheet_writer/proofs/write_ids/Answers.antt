@@ -1,4 +1,4 @@
--- `sheet_writer::write_ids` meets its contract.
+-- `sheet_writer::write_ids` meets its contract. Assumes nothing.
 use Rattle.format.specs.Sheet.{id_kinds}
 use Rattle.line_writer.specs.Inside.{lines_put}
 use borrow.Author.Rules.{rules}

@@ -1,4 +1,4 @@
--- `sheet_writer::write_lines` meets its contract.
+-- `sheet_writer::write_lines` meets its contract. Assumes nothing.
 use Rattle.format.specs.Sheet.{uid_kinds, gid_kinds}
 use Rattle.sheet_writer.proofs.Groups.{sheet_put}
 use borrow.Author.Rules.{rules}

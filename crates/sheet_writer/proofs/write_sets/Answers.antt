@@ -1,4 +1,4 @@
--- `sheet_writer::write_sets` meets its contract.
+-- `sheet_writer::write_sets` meets its contract. Assumes nothing.
 use Rattle.format.specs.Sheet.{set_kinds}
 use Rattle.line_writer.specs.Inside.{lines_put}
 use borrow.Author.Rules.{rules}

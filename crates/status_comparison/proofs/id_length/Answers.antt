@@ -1,4 +1,4 @@
--- `status_comparison::id_length` meets its contract.
+-- `status_comparison::id_length` meets its contract. Assumes nothing.
 use mathlib.Core.Path.{refl}
 use native.Mathlib.Omega.{arith}
 use borrow.Author.Tests.{eq-eqb, ne_eqb}

@@ -1,4 +1,4 @@
--- `status_comparison::ids_length` meets its contract.
+-- `status_comparison::ids_length` meets its contract. Assumes nothing.
 use native.Mathlib.Omega.{arith}
 use Rattle.status_comparison.proofs.Laws.{ids_length}
 use borrow.Author.Rules.{rules}

@@ -1,4 +1,4 @@
--- `status_comparison::lay_beside` meets its contract.
+-- `status_comparison::lay_beside` meets its contract. Assumes nothing.
 use mathlib.Core.Path.{sym, ◌∙◌}
 use native.Mathlib.Omega.{arith}
 use Rattle.status_comparison.proofs.Laws.{not_valid, no_room, is_written}

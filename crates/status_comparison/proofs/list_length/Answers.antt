@@ -1,4 +1,4 @@
--- `status_comparison::list_length` meets its contract.
+-- `status_comparison::list_length` meets its contract. Assumes nothing.
 use native.Mathlib.Omega.{arith}
 use Rattle.rules.proofs.Flags.{cast_is_number}
 use Rattle.status_comparison.proofs.Laws.{list_length}

@@ -1,4 +1,4 @@
--- `status_comparison::sets_length` meets its contract.
+-- `status_comparison::sets_length` meets its contract. Assumes nothing.
 use native.Mathlib.Omega.{arith}
 use Rattle.status_comparison.proofs.Laws.{sets_length}
 use borrow.Author.Rules.{rules}

@@ -1,4 +1,4 @@
--- `status_comparison::write_id` meets its contract.
+-- `status_comparison::write_id` meets its contract. Assumes nothing.
 use borrow.Author.Tests.{eq-eqb, ne_eqb}
 use Rattle.format.specs.Line.{decimal_text}
 use Rattle.status_comparison.proofs.Laws.{put_nothing, past_some, line_put}

@@ -1,4 +1,4 @@
--- `status_comparison::write_ids` meets its contract.
+-- `status_comparison::write_ids` meets its contract. Assumes nothing.
 use native.Mathlib.Omega.{arith}
 use Rattle.status_comparison.proofs.Laws.{ids_lines, ids_length, put_then}
 use borrow.Author.Rules.{rules}

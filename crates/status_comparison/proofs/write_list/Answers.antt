@@ -1,4 +1,4 @@
--- `status_comparison::write_list` meets its contract.
+-- `status_comparison::write_list` meets its contract. Assumes nothing.
 use native.Mathlib.Omega.{arith}
 use Rattle.rules.proofs.Flags.{cast_is_number}
 use Rattle.status.specs.Comparing.{last_line}

@@ -1,4 +1,4 @@
--- `status_comparison::write_set` meets its contract.
+-- `status_comparison::write_set` meets its contract. Assumes nothing.
 use borrow.Author.Tests.{eq-eqb, ne_eqb}
 use Rattle.hex_tables.specs.Tables.{hex_text_by}
 use Rattle.status_comparison.proofs.Laws.{put_nothing, past_some, line_put, by_the_table}

@@ -1,4 +1,4 @@
--- `status_reader::read_status` meets its contract.
+-- `status_reader::read_status` meets its contract. Assumes nothing.
 use mathlib.Core.Path.{sym, ◌∙◌}
 use mathlib.Core.List.{[]}
 use mathlib.Core.Bool.{false}

@@ -1,4 +1,4 @@
--- `attribute::reader::byte` meets its contract.
+-- `attribute::reader::byte` meets its contract. Assumes nothing.
 use mathlib.Core.Path.{sym}
 use lib.ListN.{get_or-eq_default}
 use borrow.Author.Rules.{rules}

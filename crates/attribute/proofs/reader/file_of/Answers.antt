@@ -1,4 +1,4 @@
--- `attribute::reader::file_of` meets its contract.
+-- `attribute::reader::file_of` meets its contract. Assumes nothing.
 use Rattle.attribute.specs.Reader.{file_of}
 use borrow.Author.Tests.{eq-eqb, ne_eqb}
 use borrow.Author.Rules.{rules}

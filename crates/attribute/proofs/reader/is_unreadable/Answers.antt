@@ -1,4 +1,4 @@
--- `attribute::reader::is_unreadable` meets its contract.
+-- `attribute::reader::is_unreadable` meets its contract. Assumes nothing.
 use Rattle.attribute.specs.Reader.{unreadable}
 use borrow.Author.Rules.{rules}
 use Rattle.attribute.proofs.reader.is_unreadable.Goals as goal

@@ -1,4 +1,4 @@
--- `attribute::reader::length_of` meets its contract.
+-- `attribute::reader::length_of` meets its contract. Assumes nothing.
 use Rattle.attribute.specs.Reader.{length_of}
 use borrow.Author.Tests.{eq-eqb, ne_eqb}
 use Rattle.attribute.proofs.reader.length_of.Goals as goal

@@ -1,4 +1,4 @@
--- `attribute::reader::read` meets its contract.
+-- `attribute::reader::read` meets its contract. Assumes nothing.
 use Rattle.attribute.specs.Reader.{reading}
 use borrow.Author.Tests.{eq-eqb, ne_eqb}
 use borrow.Author.Rules.{rules}

@@ -1,4 +1,4 @@
--- `attribute::reader::word` meets its contract.
+-- `attribute::reader::word` meets its contract. Assumes nothing.
 use Rattle.attribute.specs.Words.{word_at}
 use native.Mathlib.Omega.{arith}
 use borrow.Author.Rules.{rules}

@@ -1,4 +1,4 @@
--- `attribute::writer::put_words` meets its contract.
+-- `attribute::writer::put_words` meets its contract. Assumes nothing.
 use Prim.Native.Nat.{ℕ, ◌/◌, ◌%◌}
 use mathlib.Core.Path.{ap, ◌∙◌}
 use lib.Seq.{sets}

@@ -1,4 +1,4 @@
--- `attribute::writer::write` meets its contract.
+-- `attribute::writer::write` meets its contract. Assumes nothing.
 use mathlib.Core.Path.{sym, ap, ◌∙◌}
 use lib.Dec.{lit<}
 use lib.ListN.{length}

@@ -1,4 +1,4 @@
--- `calls::ambient::ambient_is_set` meets its contract.
+-- `calls::ambient::ambient_is_set` meets its contract. Assumes nothing.
 use Rattle.rules.proofs.Flags.{cast_is_number}
 use Rattle.rules.specs.Ambient.{ambient_is_set}
 use borrow.Author.Rules.{rules}

@@ -1,4 +1,4 @@
--- `calls::ambient::ambient_lower` meets its contract.
+-- `calls::ambient::ambient_lower` meets its contract. Assumes nothing.
 use Rattle.rules.specs.Ambient.{ambient_lower}
 use Rattle.calls.proofs.ambient.ambient_lower.Goals as goal
 

@@ -1,4 +1,4 @@
--- `calls::ambient::ambient_raise` meets its contract.
+-- `calls::ambient::ambient_raise` meets its contract. Assumes nothing.
 use Rattle.rules.specs.Ambient.{ambient_raise}
 use borrow.Author.Tests.{eq-eqb, ne_eqb}
 use Rattle.calls.proofs.ambient.ambient_raise.Goals as goal

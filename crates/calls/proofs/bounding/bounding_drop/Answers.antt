@@ -1,4 +1,4 @@
--- `calls::bounding::bounding_drop` meets its contract.
+-- `calls::bounding::bounding_drop` meets its contract. Assumes nothing.
 use Rattle.rules.specs.Bounding.{bounding_drop}
 use Rattle.calls.proofs.bounding.bounding_drop.Goals as goal
 

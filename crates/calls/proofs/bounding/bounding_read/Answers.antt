@@ -1,4 +1,4 @@
--- `calls::bounding::bounding_read` meets its contract.
+-- `calls::bounding::bounding_read` meets its contract. Assumes nothing.
 use Rattle.rules.specs.Bounding.{bounding_read}
 use Rattle.rules.proofs.Flags.{cast_is_number}
 use borrow.Author.Rules.{rules}

@@ -1,4 +1,4 @@
--- `calls::call::perform` meets its contract.
+-- `calls::call::perform` meets its contract. Assumes nothing.
 use Rattle.rules.specs.Call.{answer}
 use Rattle.calls.proofs.call.perform.Goals as goal
 

@@ -1,4 +1,4 @@
--- `calls::capset::capset` meets its contract.
+-- `calls::capset::capset` meets its contract. Assumes nothing.
 use Rattle.rules.specs.Capset.{capset, capset_sets}
 use Rattle.calls.proofs.capset.capset.Goals as goal
 

@@ -1,4 +1,4 @@
--- `calls::decoding::decode` meets its contract.
+-- `calls::decoding::decode` meets its contract. Assumes nothing.
 use Rattle.calls.proofs.Unknown.{unknown}
 use Rattle.rules.specs.Decoding.{decode, uses_one}
 use borrow.Author.Tests.{ne_eqb}

@@ -1,4 +1,4 @@
--- `calls::decoding::known` meets its contract.
+-- `calls::decoding::known` meets its contract. Assumes nothing.
 use Rattle.rules.specs.Decoding.{known}
 use Rattle.calls.proofs.decoding.known.Goals as goal
 

@@ -1,4 +1,4 @@
--- `calls::group_ids::filesystem_group_id_changed` meets its contract.
+-- `calls::group_ids::filesystem_group_id_changed` meets its contract. Assumes nothing.
 use borrow.Author.Rules.{rules}
 use Rattle.calls.proofs.group_ids.filesystem_group_id_changed.Goals as goal
 

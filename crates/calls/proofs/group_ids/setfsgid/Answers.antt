@@ -1,4 +1,4 @@
--- `calls::group_ids::setfsgid` meets its contract.
+-- `calls::group_ids::setfsgid` meets its contract. Assumes nothing.
 use Rattle.rules.specs.Ids.{setfsgid}
 use Rattle.calls.proofs.group_ids.setfsgid.Goals as goal
 

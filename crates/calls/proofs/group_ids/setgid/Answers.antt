@@ -1,4 +1,4 @@
--- `calls::group_ids::setgid` meets its contract.
+-- `calls::group_ids::setgid` meets its contract. Assumes nothing.
 use Rattle.rules.specs.Ids.{setgid}
 use Rattle.calls.proofs.group_ids.setgid.Goals as goal
 

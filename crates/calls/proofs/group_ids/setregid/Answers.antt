@@ -1,4 +1,4 @@
--- `calls::group_ids::setregid` meets its contract.
+-- `calls::group_ids::setregid` meets its contract. Assumes nothing.
 use Rattle.rules.specs.Ids.{setregid}
 use Rattle.calls.proofs.group_ids.setregid.Goals as goal
 

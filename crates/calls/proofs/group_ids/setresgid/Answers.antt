@@ -1,4 +1,4 @@
--- `calls::group_ids::setresgid` meets its contract.
+-- `calls::group_ids::setresgid` meets its contract. Assumes nothing.
 use Rattle.rules.specs.Ids.{setresgid}
 use Rattle.calls.proofs.group_ids.setresgid.Goals as goal
 

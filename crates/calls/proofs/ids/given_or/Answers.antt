@@ -1,4 +1,4 @@
--- `calls::ids::given_or` meets its contract.
+-- `calls::ids::given_or` meets its contract. Assumes nothing.
 use Rattle.rules.specs.Ids.{given_or}
 use borrow.Author.Tests.{eq-eqb, ne_eqb}
 use Rattle.calls.proofs.ids.given_or.Goals as goal

@@ -1,4 +1,4 @@
--- `calls::ids::setfsuid` meets its contract.
+-- `calls::ids::setfsuid` meets its contract. Assumes nothing.
 use Rattle.rules.specs.Ids.{setfsuid_on, setfsuid_changes}
 use Rattle.calls.proofs.ids.setfsuid.Goals as goal
 

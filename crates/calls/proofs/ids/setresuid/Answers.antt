@@ -1,4 +1,4 @@
--- `calls::ids::setresuid` meets its contract.
+-- `calls::ids::setresuid` meets its contract. Assumes nothing.
 use Rattle.rules.specs.Ids.{setresuid_on, setresuid_allowed}
 use Rattle.calls.proofs.ids.setresuid.Goals as goal
 

@@ -1,4 +1,4 @@
--- `calls::ids::setresuid_ids` meets its contract.
+-- `calls::ids::setresuid_ids` meets its contract. Assumes nothing.
 use Rattle.rules.specs.Ids.{setresuid_ids}
 use Rattle.calls.proofs.ids.setresuid_ids.Goals as goal
 

@@ -1,4 +1,4 @@
--- `calls::ids::setreuid` meets its contract.
+-- `calls::ids::setreuid` meets its contract. Assumes nothing.
 use Rattle.rules.specs.Ids.{setreuid_on, setreuid_allowed}
 use Rattle.calls.proofs.ids.setreuid.Goals as goal
 

@@ -1,4 +1,4 @@
--- `calls::ids::setreuid_ids` meets its contract.
+-- `calls::ids::setreuid_ids` meets its contract. Assumes nothing.
 use Rattle.rules.specs.Ids.{setreuid_ids}
 use Rattle.calls.proofs.ids.setreuid_ids.Goals as goal
 

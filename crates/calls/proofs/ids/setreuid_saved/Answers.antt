@@ -1,4 +1,4 @@
--- `calls::ids::setreuid_saved` meets its contract.
+-- `calls::ids::setreuid_saved` meets its contract. Assumes nothing.
 use Rattle.rules.specs.Ids.{setreuid_saved}
 use Rattle.calls.proofs.ids.setreuid_saved.Goals as goal
 

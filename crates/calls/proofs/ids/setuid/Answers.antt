@@ -1,4 +1,4 @@
--- `calls::ids::setuid` meets its contract.
+-- `calls::ids::setuid` meets its contract. Assumes nothing.
 use Rattle.rules.specs.Ids.{setuid_on, setuid_allowed}
 use Rattle.calls.proofs.ids.setuid.Goals as goal
 

@@ -1,4 +1,4 @@
--- `calls::ids::setuid_ids` meets its contract.
+-- `calls::ids::setuid_ids` meets its contract. Assumes nothing.
 use Rattle.rules.specs.Ids.{setuid_ids}
 use Rattle.calls.proofs.ids.setuid_ids.Goals as goal
 

@@ -1,4 +1,4 @@
--- `calls::launching::counted` meets its contract.
+-- `calls::launching::counted` meets its contract. Assumes nothing.
 use Rattle.rules.specs.Launching.{counted}
 use Rattle.calls.proofs.launching.counted.Goals as goal
 

@@ -1,4 +1,4 @@
--- `calls::launching::counted_set` meets its contract.
+-- `calls::launching::counted_set` meets its contract. Assumes nothing.
 use Rattle.rules.specs.Launching.{counted_set}
 use Rattle.calls.proofs.launching.counted_set.Goals as goal
 

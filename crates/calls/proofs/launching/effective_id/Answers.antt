@@ -1,4 +1,4 @@
--- `calls::launching::effective_id` meets its contract.
+-- `calls::launching::effective_id` meets its contract. Assumes nothing.
 use Rattle.rules.specs.Launching.{effective_id}
 use Rattle.calls.proofs.launching.effective_id.Goals as goal
 

@@ -1,4 +1,4 @@
--- `calls::launching::falls_short` meets its contract.
+-- `calls::launching::falls_short` meets its contract. Assumes nothing.
 use Rattle.rules.specs.Launching.{falls_short}
 use Rattle.calls.proofs.launching.falls_short.Goals as goal
 

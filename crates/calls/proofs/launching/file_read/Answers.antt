@@ -1,4 +1,4 @@
--- `calls::launching::file_read` meets its contract.
+-- `calls::launching::file_read` meets its contract. Assumes nothing.
 use Rattle.rules.specs.Launching.{file_read, ignores_attribute}
 use Rattle.calls.proofs.launching.file_read.Goals as goal
 

@@ -1,4 +1,4 @@
--- `calls::launching::gained` meets its contract.
+-- `calls::launching::gained` meets its contract. Assumes nothing.
 use Rattle.rules.specs.Launching.{gained}
 use mathlib.Core.Path.{refl}
 use Rattle.calls.proofs.launching.gained.Goals as goal

@@ -1,4 +1,4 @@
--- `calls::launching::ignores_set_id` meets its contract.
+-- `calls::launching::ignores_set_id` meets its contract. Assumes nothing.
 use Rattle.rules.specs.Launching.{ignores_set_id}
 use mathlib.Core.Path.{refl}
 use Rattle.calls.proofs.launching.ignores_set_id.Goals as goal

@@ -1,4 +1,4 @@
--- `calls::launching::in_force` meets its contract.
+-- `calls::launching::in_force` meets its contract. Assumes nothing.
 use Rattle.rules.specs.Launching.{in_force}
 use Rattle.calls.proofs.launching.in_force.Goals as goal
 

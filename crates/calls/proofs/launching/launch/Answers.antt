@@ -1,4 +1,4 @@
--- `calls::launching::launch` meets its contract.
+-- `calls::launching::launch` meets its contract. Assumes nothing.
 use Rattle.rules.specs.Launching.{launch}
 use borrow.Author.Rules.{rules}
 use Rattle.calls.proofs.launching.launch.Goals as goal

@@ -1,4 +1,4 @@
--- `calls::launching::launched` meets its contract.
+-- `calls::launching::launched` meets its contract. Assumes nothing.
 use Rattle.rules.specs.Launching.{is_privileged, launched}
 use Rattle.calls.proofs.launching.launched.Goals as goal
 

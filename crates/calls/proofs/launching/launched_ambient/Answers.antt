@@ -1,4 +1,4 @@
--- `calls::launching::launched_ambient` meets its contract.
+-- `calls::launching::launched_ambient` meets its contract. Assumes nothing.
 use Rattle.rules.specs.Launching.{launched_ambient}
 use Rattle.calls.proofs.launching.launched_ambient.Goals as goal
 

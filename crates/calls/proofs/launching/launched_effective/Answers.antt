@@ -1,4 +1,4 @@
--- `calls::launching::launched_effective` meets its contract.
+-- `calls::launching::launched_effective` meets its contract. Assumes nothing.
 use Rattle.rules.specs.Launching.{launched_effective}
 use Rattle.calls.proofs.launching.launched_effective.Goals as goal
 

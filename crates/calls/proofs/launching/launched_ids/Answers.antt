@@ -1,4 +1,4 @@
--- `calls::launching::launched_ids` meets its contract.
+-- `calls::launching::launched_ids` meets its contract. Assumes nothing.
 use Rattle.rules.specs.Launching.{launched_ids}
 use Rattle.calls.proofs.launching.launched_ids.Goals as goal
 

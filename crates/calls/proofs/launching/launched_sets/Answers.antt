@@ -1,4 +1,4 @@
--- `calls::launching::launched_sets` meets its contract.
+-- `calls::launching::launched_sets` meets its contract. Assumes nothing.
 use Rattle.rules.specs.Launching.{launched_sets}
 use Rattle.calls.proofs.launching.launched_sets.Goals as goal
 

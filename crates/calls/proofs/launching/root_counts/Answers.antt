@@ -1,4 +1,4 @@
--- `calls::launching::root_counts` meets its contract.
+-- `calls::launching::root_counts` meets its contract. Assumes nothing.
 use Rattle.rules.specs.Launching.{root_counts}
 use mathlib.Core.Path.{refl}
 use Rattle.calls.proofs.launching.root_counts.Goals as goal

@@ -1,4 +1,4 @@
--- `calls::securebits::set_securebits` meets its contract.
+-- `calls::securebits::set_securebits` meets its contract. Assumes nothing.
 use Rattle.rules.specs.Securebits.{set_securebits, changes_locked}
 use borrow.Author.Tests.{eq-eqb, ne_eqb}
 use Rattle.calls.proofs.securebits.set_securebits.Goals as goal

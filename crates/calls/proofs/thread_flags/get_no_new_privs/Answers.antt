@@ -1,4 +1,4 @@
--- `calls::thread_flags::get_no_new_privs` meets its contract.
+-- `calls::thread_flags::get_no_new_privs` meets its contract. Assumes nothing.
 use Rattle.rules.proofs.Flags.{cast_is_number}
 use Rattle.rules.specs.ThreadFlags.{get_no_new_privs}
 use borrow.Author.Rules.{rules}

@@ -1,4 +1,4 @@
--- `calls::thread_flags::set_keep_caps` meets its contract.
+-- `calls::thread_flags::set_keep_caps` meets its contract. Assumes nothing.
 use Rattle.rules.specs.ThreadFlags.{set_keep_caps, with_keep_caps}
 use borrow.Author.Tests.{eq-eqb, ne_eqb}
 use Rattle.calls.proofs.thread_flags.set_keep_caps.Goals as goal

@@ -1,4 +1,4 @@
--- `calls::thread_flags::set_no_new_privs` meets its contract.
+-- `calls::thread_flags::set_no_new_privs` meets its contract. Assumes nothing.
 use Rattle.rules.specs.ThreadFlags.{set_no_new_privs}
 use mathlib.Core.Path.{refl}
 use Rattle.calls.proofs.thread_flags.set_no_new_privs.Goals as goal

@@ -1,4 +1,4 @@
--- `calls::user_ids::effective_left` meets its contract.
+-- `calls::user_ids::effective_left` meets its contract. Assumes nothing.
 use Rattle.rules.specs.Ids.{effective_left}
 use Rattle.calls.proofs.user_ids.effective_left.Goals as goal
 

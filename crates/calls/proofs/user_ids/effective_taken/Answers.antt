@@ -1,4 +1,4 @@
--- `calls::user_ids::effective_taken` meets its contract.
+-- `calls::user_ids::effective_taken` meets its contract. Assumes nothing.
 use Rattle.rules.specs.Ids.{effective_taken}
 use Rattle.calls.proofs.user_ids.effective_taken.Goals as goal
 

@@ -1,4 +1,4 @@
--- `calls::user_ids::filesystem_left` meets its contract.
+-- `calls::user_ids::filesystem_left` meets its contract. Assumes nothing.
 use Rattle.rules.specs.Ids.{filesystem_left}
 use Rattle.calls.proofs.user_ids.filesystem_left.Goals as goal
 

@@ -1,4 +1,4 @@
--- `calls::user_ids::filesystem_taken` meets its contract.
+-- `calls::user_ids::filesystem_taken` meets its contract. Assumes nothing.
 use Rattle.rules.specs.Ids.{filesystem_taken}
 use Rattle.calls.proofs.user_ids.filesystem_taken.Goals as goal
 

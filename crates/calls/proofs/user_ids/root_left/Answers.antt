@@ -1,4 +1,4 @@
--- `calls::user_ids::root_left` meets its contract.
+-- `calls::user_ids::root_left` meets its contract. Assumes nothing.
 use Rattle.rules.specs.Ids.{root_left}
 use borrow.Author.Tests.{eq-eqb, ne_eqb}
 use Rattle.calls.proofs.user_ids.root_left.Goals as goal

@@ -1,4 +1,4 @@
--- `calls::user_ids::setfsuid` meets its contract.
+-- `calls::user_ids::setfsuid` meets its contract. Assumes nothing.
 use Rattle.rules.specs.Ids.{setfsuid}
 use Rattle.calls.proofs.user_ids.setfsuid.Goals as goal
 

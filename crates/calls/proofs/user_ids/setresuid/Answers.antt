@@ -1,4 +1,4 @@
--- `calls::user_ids::setresuid` meets its contract.
+-- `calls::user_ids::setresuid` meets its contract. Assumes nothing.
 use Rattle.rules.specs.Ids.{setresuid}
 use Rattle.calls.proofs.user_ids.setresuid.Goals as goal
 

@@ -1,4 +1,4 @@
--- `calls::user_ids::setreuid` meets its contract.
+-- `calls::user_ids::setreuid` meets its contract. Assumes nothing.
 use Rattle.rules.specs.Ids.{setreuid}
 use Rattle.calls.proofs.user_ids.setreuid.Goals as goal
 

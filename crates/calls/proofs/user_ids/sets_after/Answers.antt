@@ -1,4 +1,4 @@
--- `calls::user_ids::sets_after` meets its contract.
+-- `calls::user_ids::sets_after` meets its contract. Assumes nothing.
 use Rattle.rules.specs.Ids.{sets_after}
 use borrow.Author.Tests.{eq-eqb, ne_eqb}
 use Rattle.calls.proofs.user_ids.sets_after.Goals as goal

@@ -1,4 +1,4 @@
--- `calls::user_ids::sets_after_filesystem` meets its contract.
+-- `calls::user_ids::sets_after_filesystem` meets its contract. Assumes nothing.
 use Rattle.rules.specs.Ids.{sets_after_filesystem}
 use borrow.Author.Tests.{eq-eqb, ne_eqb}
 use Rattle.calls.proofs.user_ids.sets_after_filesystem.Goals as goal

@@ -1,4 +1,4 @@
--- `calls::user_ids::setuid` meets its contract.
+-- `calls::user_ids::setuid` meets its contract. Assumes nothing.
 use Rattle.rules.specs.Ids.{setuid}
 use Rattle.calls.proofs.user_ids.setuid.Goals as goal
 

@@ -1,4 +1,4 @@
--- `capabilities::sets::difference` meets its contract.
+-- `capabilities::sets::difference` meets its contract. Assumes nothing.
 use Rattle.capabilities.proofs.Masks.{minus_code}
 use Rattle.capabilities.proofs.sets.difference.Goals as goal
 

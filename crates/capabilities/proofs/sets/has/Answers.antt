@@ -1,4 +1,4 @@
--- `capabilities::sets::has` meets its contract.
+-- `capabilities::sets::has` meets its contract. Assumes nothing.
 use mathlib.Core.Path.{sym}
 use borrow.Author.Rules.{rules}
 use Rattle.capabilities.proofs.Masks.{has_code}

@@ -1,4 +1,4 @@
--- `capabilities::sets::lacks` meets its contract.
+-- `capabilities::sets::lacks` meets its contract. Assumes nothing.
 use mathlib.Core.Path.{ap}
 use mathlib.Core.Bool.{not}
 use borrow.Author.Rules.{rules}

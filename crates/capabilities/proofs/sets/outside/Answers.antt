@@ -1,4 +1,4 @@
--- `capabilities::sets::outside` meets its contract.
+-- `capabilities::sets::outside` meets its contract. Assumes nothing.
 use mathlib.Core.Path.{refl}
 use Rattle.capabilities.specs.Sets.{outside}
 use Rattle.capabilities.proofs.sets.outside.Goals as goal

@@ -1,4 +1,4 @@
--- `line_reader::digits::decimal_digit` meets its contract.
+-- `line_reader::digits::decimal_digit` meets its contract. Assumes nothing.
 use Rattle.std.proofs.Common.{rules, le-ltb, lt-ltb}
 use Rattle.line_reader.proofs.digits.decimal_digit.Goals as goal
 

@@ -1,4 +1,4 @@
--- `line_reader::digits::hex_digit` meets its contract.
+-- `line_reader::digits::hex_digit` meets its contract. Assumes nothing.
 use Rattle.std.proofs.Common.{◌∙◌, rules, lt-ltb}
 use Rattle.line_reader.proofs.digits.hex_digit.Goals as goal
 

@@ -1,4 +1,4 @@
--- `line_reader::lines::hex_at` meets its contract.
+-- `line_reader::lines::hex_at` meets its contract. Assumes nothing.
 use Rattle.std.proofs.Common.{◌≡◌, ◌+◌, ◌-◌, ◌^◌, ◌<◌, ◌≤◌, drop, sym, add-zero, arith, rules, le-ltb, lt-ltb}
 use native.Mathlib.Nat.{sub-zero}
 use Rattle.line_reader.proofs.LineLaws.{hex_step, hex_end}

@@ -1,4 +1,4 @@
--- `line_reader::lines::starts_with` meets its contract.
+-- `line_reader::lines::starts_with` meets its contract. Assumes nothing.
 use Rattle.std.proofs.Common.{◌≡◌, ◌+◌, ◌-◌, ◌≤◌, drop, sym, add-zero, arith, rules, eq-eqb, ne_eqb}
 use Rattle.format.proofs.Keys.{starts_step, starts_end}
 use Rattle.format.specs.Line.{starts_with}

@@ -1,4 +1,4 @@
--- `line_reader::places::read_attribute` meets its contract.
+-- `line_reader::places::read_attribute` meets its contract. Assumes nothing.
 use Rattle.std.proofs.Common.{sym, ◌∙◌}
 use Rattle.line_reader.proofs.Attributes.{bytes_by, bytes_found, bytes_missed}
 use Rattle.line_reader.proofs.places.read_attribute.Goals as goal

@@ -1,4 +1,4 @@
--- `line_writer::lines::decimal_length` meets its contract.
+-- `line_writer::lines::decimal_length` meets its contract. Assumes nothing.
 use mathlib.Core.Path.{◌≡◌, ◌∙◌}
 use Prim.Native.Nat.{◌≤◌, ◌-◌, ◌+◌}
 use native.Mathlib.Omega.{arith}

@@ -1,4 +1,4 @@
--- `line_writer::lines::put_hex` meets its contract.
+-- `line_writer::lines::put_hex` meets its contract. Assumes nothing.
 use mathlib.Core.Path.{◌≡◌, refl, sym, ◌∙◌}
 use Prim.Native.Nat.{◌≤◌, ◌-◌}
 use native.Mathlib.Omega.{arith}

@@ -1,4 +1,4 @@
--- `line_writer::lines::write_bytes` meets its contract.
+-- `line_writer::lines::write_bytes` meets its contract. Assumes nothing.
 use mathlib.Core.Path.{sym, ◌∙◌}
 use native.Mathlib.Omega.{arith}
 use borrow.Author.Rules.{rules}

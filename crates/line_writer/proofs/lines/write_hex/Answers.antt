@@ -1,4 +1,4 @@
--- `line_writer::lines::write_hex` meets its contract.
+-- `line_writer::lines::write_hex` meets its contract. Assumes nothing.
 use mathlib.Core.Path.{◌∙◌}
 use native.Mathlib.Omega.{arith}
 use lib.ListN.{length-set}

@@ -1,4 +1,4 @@
--- `names_reader::bytes::lower` meets its contract.
+-- `names_reader::bytes::lower` meets its contract. Assumes nothing.
 use borrow.Author.Tests.{le-ltb, lt-ltb}
 use native.Mathlib.Omega.{arith}
 use Rattle.names_reader.proofs.bytes.lower.Goals as goal

@@ -1,4 +1,4 @@
--- `names_reader::clauses::begun` meets its contract.
+-- `names_reader::clauses::begun` meets its contract. Assumes nothing.
 use borrow.Author.Tests.{eq-eqb, ne_eqb}
 use Rattle.names_reader.proofs.clauses.begun.Goals as goal
 

@@ -1,4 +1,4 @@
--- `names_reader::clauses::changed` meets its contract.
+-- `names_reader::clauses::changed` meets its contract. Assumes nothing.
 use Rattle.names_reader.proofs.clauses.changed.Goals as goal
 
 pub returns-then-gives : goal.returns-then-gives

@@ -1,4 +1,4 @@
--- `names_reader::clauses::clause_at` meets its contract.
+-- `names_reader::clauses::clause_at` meets its contract. Assumes nothing.
 use mathlib.Core.Path.{◌∙◌}
 use Prim.Native.Nat.{◌<◌, ◌≤◌, ℕ}
 use native.Mathlib.Omega.{arith}

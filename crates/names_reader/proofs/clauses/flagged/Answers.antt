@@ -1,4 +1,4 @@
--- `names_reader::clauses::flagged` meets its contract.
+-- `names_reader::clauses::flagged` meets its contract. Assumes nothing.
 use borrow.Author.Tests.{eq-eqb, ne_eqb}
 use Rattle.names_reader.proofs.clauses.flagged.Goals as goal
 

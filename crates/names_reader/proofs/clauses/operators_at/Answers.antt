@@ -1,4 +1,4 @@
--- `names_reader::clauses::operators_at` meets its contract.
+-- `names_reader::clauses::operators_at` meets its contract. Assumes nothing.
 use mathlib.Core.Path.{◌≡◌, refl, sym, ap, ◌∙◌}
 use mathlib.Core.Bool.{Bool, true, false, not}
 use native.Mathlib.Omega.{arith}

@@ -1,4 +1,4 @@
--- `names_reader::clauses::without` meets its contract.
+-- `names_reader::clauses::without` meets its contract. Assumes nothing.
 use Rattle.names_reader.proofs.clauses.without.Goals as goal
 
 pub returns : goal.returns

@@ -1,4 +1,4 @@
--- `names_reader::subjects::subject_at` meets its contract.
+-- `names_reader::subjects::subject_at` meets its contract. Assumes nothing.
 use mathlib.Core.Path.{sym, ◌∙◌}
 use mathlib.Core.List.{[], ◌∷◌}
 use mathlib.Core.Bool.{true}

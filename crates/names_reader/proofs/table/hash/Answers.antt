@@ -1,4 +1,4 @@
--- `names_reader::table::hash` meets its contract.
+-- `names_reader::table::hash` meets its contract. Assumes nothing.
 use Rattle.names_reader.proofs.table.hash.Goals as goal
 
 pub returns : goal.returns

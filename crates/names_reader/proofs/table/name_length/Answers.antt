@@ -1,4 +1,4 @@
--- `names_reader::table::name_length` meets its contract.
+-- `names_reader::table::name_length` meets its contract. Assumes nothing.
 use mathlib.Core.Path.{◌∙◌}
 use native.Mathlib.Omega.{arith}
 use Rattle.names_reader.proofs.Rows.{row_in}

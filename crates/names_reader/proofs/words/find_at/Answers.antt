@@ -1,4 +1,4 @@
--- `names_reader::words::find_at` meets its contract.
+-- `names_reader::words::find_at` meets its contract. Assumes nothing.
 use mathlib.Core.Path.{◌≡◌, sym, ap, ◌∙◌}
 use Prim.Native.Nat.{ℕ, ◌+◌}
 use native.Mathlib.Omega.{arith}

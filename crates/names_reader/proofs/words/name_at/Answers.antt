@@ -1,4 +1,4 @@
--- `names_reader::words::name_at` meets its contract.
+-- `names_reader::words::name_at` meets its contract. Assumes nothing.
 use mathlib.Core.Path.{◌≡◌, sym, ◌∙◌}
 use Prim.Native.Nat.{◌<◌}
 use native.Mathlib.Omega.{arith}

@@ -1,4 +1,4 @@
--- `names_reader::words::row_common` meets its contract.
+-- `names_reader::words::row_common` meets its contract. Assumes nothing.
 use mathlib.Core.Path.{◌≡◌, ap, ◌∙◌}
 use mathlib.Core.List.{List}
 use Prim.Native.Nat.{ℕ, ◌+◌, ◌-◌}

@@ -1,4 +1,4 @@
--- `names_reader::words::search_at` meets its contract.
+-- `names_reader::words::search_at` meets its contract. Assumes nothing.
 use mathlib.Core.Path.{◌≡◌, refl, sym, ap, ◌∙◌}
 use mathlib.Core.List.{List}
 use Prim.Native.Nat.{◌+◌, ℕ, max}

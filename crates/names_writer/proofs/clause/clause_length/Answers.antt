@@ -1,4 +1,4 @@
--- `names_writer::clause::clause_length` meets its contract.
+-- `names_writer::clause::clause_length` meets its contract. Assumes nothing.
 use Rattle.names_writer.proofs.clause.clause_length.Goals as goal
 
 pub returns-then-has_flag : goal.returns-then-has_flag

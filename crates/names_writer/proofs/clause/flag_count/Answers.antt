@@ -1,4 +1,4 @@
--- `names_writer::clause::flag_count` meets its contract.
+-- `names_writer::clause::flag_count` meets its contract. Assumes nothing.
 use mathlib.Core.Path.{ap, ◌∙◌}
 use mathlib.Core.Bool.{Bool, cond}
 use native.Mathlib.Omega.{arith}

@@ -1,4 +1,4 @@
--- `names_writer::clause::has_flag` meets its contract.
+-- `names_writer::clause::has_flag` meets its contract. Assumes nothing.
 use Rattle.names_writer.proofs.clause.has_flag.Goals as goal
 
 pub returns : goal.returns

@@ -1,4 +1,4 @@
--- `names_writer::clause::separator_length` meets its contract.
+-- `names_writer::clause::separator_length` meets its contract. Assumes nothing.
 use native.Mathlib.Omega.{arith}
 use mathlib.Core.Path.{refl}
 use borrow.Author.Tests.{eq-eqb, ne_eqb}

@@ -1,4 +1,4 @@
--- `names_writer::clause::write_clause` meets its contract.
+-- `names_writer::clause::write_clause` meets its contract. Assumes nothing.
 use mathlib.Core.Path.{refl, sym, ◌∙◌}
 use native.Mathlib.Omega.{arith}
 use mathlib.Core.List.{◌++◌}

@@ -1,4 +1,4 @@
--- `names_writer::clause::write_flags` meets its contract.
+-- `names_writer::clause::write_flags` meets its contract. Assumes nothing.
 use mathlib.Core.Path.{ap}
 use native.Mathlib.Omega.{arith}
 use mathlib.Core.Bool.{Bool, cond}

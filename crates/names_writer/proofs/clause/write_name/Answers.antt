@@ -1,4 +1,4 @@
--- `names_writer::clause::write_name` meets its contract.
+-- `names_writer::clause::write_name` meets its contract. Assumes nothing.
 use native.Mathlib.Omega.{arith}
 use mathlib.Core.List.{◌++◌}
 use lib.ListN.{length-append}

@@ -1,4 +1,4 @@
--- `names_writer::table::by_number` meets its contract: every entry at once, by computing the rows.
+-- `names_writer::table::by_number` meets its contract: every entry at once, by computing the rows. Assumes nothing.
 use mathlib.Core.Path.{refl}
 use Rattle.names.specs.Names.{capability_names}
 use Rattle.names.specs.Inside.{flat, rows_from}

@@ -1,4 +1,4 @@
--- `plan::report::results_length` meets its contract.
+-- `plan::report::results_length` meets its contract. Assumes nothing.
 use mathlib.Core.Path.{◌≡◌, ap}
 use Prim.Native.Nat.{◌≤◌, ◌+◌, ◌-◌, ◌*◌}
 use native.Mathlib.Omega.{arith}

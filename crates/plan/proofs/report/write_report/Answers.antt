@@ -1,4 +1,4 @@
--- `plan::report::write_report` meets its contract.
+-- `plan::report::write_report` meets its contract. Assumes nothing.
 use mathlib.Core.Path.{◌∙◌}
 use native.Mathlib.Omega.{arith}
 use Rattle.format.specs.Sheet.{sheet_text}

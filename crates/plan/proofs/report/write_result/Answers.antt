@@ -1,4 +1,4 @@
--- `plan::report::write_result` meets its contract.
+-- `plan::report::write_result` meets its contract. Assumes nothing.
 use Rattle.format.specs.Report.{result_kinds}
 use Rattle.line_writer.specs.Inside.{lines_put}
 use borrow.Author.Rules.{rules}

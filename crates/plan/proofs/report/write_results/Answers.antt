@@ -1,4 +1,4 @@
--- `plan::report::write_results` meets its contract.
+-- `plan::report::write_results` meets its contract. Assumes nothing.
 use mathlib.Core.Path.{◌≡◌, refl, sym, ap, ◌∙◌}
 use mathlib.Core.List.{[], ◌∷◌}
 use Prim.Native.Nat.{◌≤◌, ◌+◌, ◌-◌}

@@ -1,4 +1,4 @@
--- `plan::runner::run_from` meets its contract.
+-- `plan::runner::run_from` meets its contract. Assumes nothing.
 use mathlib.Core.Path.{refl, sym, ap, ◌∙◌}
 use native.Mathlib.Omega.{arith}
 use Rattle.plan.specs.declared.runner.StepsRun.{StepsRun}

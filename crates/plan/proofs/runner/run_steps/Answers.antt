@@ -1,4 +1,4 @@
--- `plan::runner::run_steps` meets its contract.
+-- `plan::runner::run_steps` meets its contract. Assumes nothing.
 use mathlib.Core.Path.{◌≡◌, sym, ap, ◌∙◌}
 use Prim.Native.Nat.{◌≤◌, ◌<◌, ◌+◌, ◌-◌, suc}
 use native.Mathlib.Omega.{arith}

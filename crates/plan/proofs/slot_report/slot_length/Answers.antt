@@ -1,4 +1,4 @@
--- `plan::slot_report::slot_length` meets its contract.
+-- `plan::slot_report::slot_length` meets its contract. Assumes nothing.
 use native.Mathlib.Omega.{arith}
 use Rattle.plan.proofs.SlotLaws.{slot_length}
 use borrow.Author.Rules.{rules}

@@ -1,4 +1,4 @@
--- `plan::slot_report::write_slot` meets its contract.
+-- `plan::slot_report::write_slot` meets its contract. Assumes nothing.
 use mathlib.Core.Path.{◌∙◌}
 use native.Mathlib.Omega.{arith}
 use Rattle.plan.proofs.SlotLaws.{slot_put}

@@ -1,4 +1,4 @@
--- `plan::slot_report::write_slot_report` meets its contract.
+-- `plan::slot_report::write_slot_report` meets its contract. Assumes nothing.
 use mathlib.Core.Path.{sym, ap, ◌∙◌}
 use native.Mathlib.Omega.{arith}
 use lib.ListN.{length}

@@ -1,4 +1,4 @@
--- `plan::slot_report::write_slots` meets its contract.
+-- `plan::slot_report::write_slots` meets its contract. Assumes nothing.
 use mathlib.Core.Path.{◌≡◌, refl, sym, ap, ◌∙◌}
 use mathlib.Core.List.{◌++◌}
 use Prim.Native.Nat.{◌≤◌, ◌+◌, ◌-◌}

@@ -1,4 +1,4 @@
--- `plan::slot_runner::run_slot_plan` meets its contract.
+-- `plan::slot_runner::run_slot_plan` meets its contract. Assumes nothing.
 use mathlib.Core.Path.{refl, ◌∙◌}
 use Rattle.sheet_reader.proofs.Format.{front_is}
 use Rattle.sheet_reader.proofs.Whole.{front_told, front_told_invalid, front_fault}

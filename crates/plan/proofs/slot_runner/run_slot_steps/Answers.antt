@@ -1,4 +1,4 @@
--- `plan::slot_runner::run_slot_steps` meets its contract.
+-- `plan::slot_runner::run_slot_steps` meets its contract. Assumes nothing.
 use mathlib.Core.Path.{◌≡◌, sym, ap, ◌∙◌, subst}
 use Prim.Native.Nat.{◌≤◌, ◌<◌, ◌+◌, ◌-◌, ◌*◌, suc}
 use native.Mathlib.Omega.{arith}

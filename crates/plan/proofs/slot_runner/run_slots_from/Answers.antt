@@ -1,4 +1,4 @@
--- `plan::slot_runner::run_slots_from` meets its contract.
+-- `plan::slot_runner::run_slots_from` meets its contract. Assumes nothing.
 use mathlib.Core.Path.{refl, ◌∙◌}
 use native.Mathlib.Omega.{arith}
 use Rattle.plan.proofs.SlotReportLaws.{ran_at_fault, ran_to_the_end, steps_at_fault, plan_ran, last_valid}

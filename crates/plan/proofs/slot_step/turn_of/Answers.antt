@@ -1,4 +1,4 @@
--- `plan::slot_step::turn_of` meets its contract.
+-- `plan::slot_step::turn_of` meets its contract. Assumes nothing.
 use mathlib.Core.Path.{◌∙◌}
 use native.Mathlib.Nat.{sub-zero}
 use borrow.Author.Rules.{rules}

@@ -1,4 +1,4 @@
--- `plan::step::read_operands` meets its contract.
+-- `plan::step::read_operands` meets its contract. Assumes nothing.
 use Rattle.format.specs.Step.{step_kinds}
 use Rattle.line_reader.specs.Positions.{lines_at}
 use borrow.Author.Rules.{rules}

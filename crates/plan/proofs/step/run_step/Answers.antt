@@ -1,4 +1,4 @@
--- `plan::step::run_step` meets its contract.
+-- `plan::step::run_step` meets its contract. Assumes nothing.
 use mathlib.Core.Path.{sym}
 use native.Mathlib.Omega.{arith}
 use native.Mathlib.Nat.{sub-zero}

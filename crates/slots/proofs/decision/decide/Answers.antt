@@ -1,4 +1,4 @@
--- `slots::decision::decide` meets its contract.
+-- `slots::decision::decide` meets its contract. Assumes nothing.
 use Rattle.threads.specs.Step.{decided}
 use borrow.Author.Tests.{eq-eqb, ne_eqb}
 use borrow.Author.Rules.{rules}

@@ -1,4 +1,4 @@
--- `slots::table::lowest_free` meets its contract.
+-- `slots::table::lowest_free` meets its contract. Assumes nothing.
 use Prim.Native.Nat.{◌≤◌, ◌+◌, ◌-◌}
 use mathlib.Core.Path.{◌≡◌}
 use native.Mathlib.Omega.{arith}

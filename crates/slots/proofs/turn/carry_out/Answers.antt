@@ -1,4 +1,4 @@
--- `slots::turn::carry_out` meets its contract.
+-- `slots::turn::carry_out` meets its contract. Assumes nothing.
 use Rattle.slots.specs.Turn.{turn_by}
 use borrow.Author.Rules.{rules}
 use Rattle.slots.proofs.turn.carry_out.Goals as goal

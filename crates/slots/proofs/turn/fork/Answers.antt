@@ -1,4 +1,4 @@
--- `slots::turn::fork` meets its contract.
+-- `slots::turn::fork` meets its contract. Assumes nothing.
 use Rattle.slots.specs.Turn.{turn_by}
 use borrow.Author.Tests.{le-ltb, lt-ltb}
 use borrow.Author.Rules.{rules}

@@ -1,4 +1,4 @@
--- `slots::turn::place` meets its contract.
+-- `slots::turn::place` meets its contract. Assumes nothing.
 use Rattle.slots.specs.Turn.{place}
 use native.Mathlib.Omega.{arith}
 use borrow.Author.Tests.{le-ltb, lt-ltb}

@@ -1,4 +1,4 @@
--- `slots::turn::step` meets its contract.
+-- `slots::turn::step` meets its contract. Assumes nothing.
 use Prim.Native.Nat.{ℕ, ◌<◌}
 use mathlib.Core.Path.{◌≡◌, sym, ap, ◌∙◌, subst}
 use native.Mathlib.Omega.{arith}

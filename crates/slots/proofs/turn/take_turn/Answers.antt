@@ -1,4 +1,4 @@
--- `slots::turn::take_turn` meets its contract.
+-- `slots::turn::take_turn` meets its contract. Assumes nothing.
 use Rattle.slots.specs.Turn.{turn_of}
 use borrow.Author.Tests.{le-ltb, lt-ltb}
 use borrow.Author.Rules.{rules}

@@ -1,4 +1,4 @@
--- `status_reader::lines::find` meets its contract.
+-- `status_reader::lines::find` meets its contract. Assumes nothing.
 use mathlib.Core.Path.{◌≡◌, refl}
 use Prim.Native.Nat.{◌≤◌, ◌-◌, ◌+◌}
 use native.Mathlib.Omega.{arith}

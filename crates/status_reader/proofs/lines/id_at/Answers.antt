@@ -1,4 +1,4 @@
--- `status_reader::lines::id_at` meets its contract.
+-- `status_reader::lines::id_at` meets its contract. Assumes nothing.
 use mathlib.Core.Path.{sym}
 use Prim.Native.Nat.{◌+◌}
 use native.Mathlib.Omega.{arith}

@@ -1,4 +1,4 @@
--- `status_reader::lines::ids_line` meets its contract.
+-- `status_reader::lines::ids_line` meets its contract. Assumes nothing.
 use mathlib.Core.Path.{ap, ◌∙◌}
 use mathlib.Core.List.{List, [], ◌∷◌}
 use Prim.Native.Nat.{ℕ}

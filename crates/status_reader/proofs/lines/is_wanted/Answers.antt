@@ -1,4 +1,4 @@
--- `status_reader::lines::is_wanted` meets its contract.
+-- `status_reader::lines::is_wanted` meets its contract. Assumes nothing.
 use mathlib.Core.Path.{sym}
 use native.Mathlib.Omega.{arith}
 use borrow.Author.Rules.{rules}

@@ -1,4 +1,4 @@
--- `status_reader::lines::set_line` meets its contract.
+-- `status_reader::lines::set_line` meets its contract. Assumes nothing.
 use mathlib.Core.Path.{ap, ◌∙◌}
 use mathlib.Core.List.{[]}
 use borrow.Author.Rules.{rules}

@@ -1,4 +1,4 @@
--- `status_reader::lines::starts_with` meets its contract.
+-- `status_reader::lines::starts_with` meets its contract. Assumes nothing.
 use mathlib.Core.Path.{◌≡◌, refl, sym}
 use Prim.Native.Nat.{◌≤◌, ◌-◌, ◌+◌}
 use native.Mathlib.Omega.{arith}

@@ -1,4 +1,4 @@
--- `status_reader::lines::values_of` meets its contract.
+-- `status_reader::lines::values_of` meets its contract. Assumes nothing.
 use mathlib.Core.Path.{sym, ◌∙◌}
 use native.Mathlib.Omega.{arith}
 use borrow.Author.Rules.{rules}

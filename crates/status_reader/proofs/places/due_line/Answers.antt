@@ -1,4 +1,4 @@
--- `status_reader::places::due_line` meets its contract.
+-- `status_reader::places::due_line` meets its contract. Assumes nothing.
 use mathlib.Core.Path.{sym, ap, ◌∙◌}
 use mathlib.Core.List.{◌∷◌}
 use borrow.Author.Rules.{rules}

@@ -1,4 +1,4 @@
--- `status_reader::places::read_set` meets its contract.
+-- `status_reader::places::read_set` meets its contract. Assumes nothing.
 use mathlib.Core.Path.{sym, ap, ◌∙◌}
 use mathlib.Core.List.{List, [], ◌∷◌}
 use Prim.Native.Nat.{ℕ}

@@ -1,4 +1,4 @@
--- `status_reader::places::wanted_line` meets its contract.
+-- `status_reader::places::wanted_line` meets its contract. Assumes nothing.
 use mathlib.Core.Path.{◌≡◌, refl, sym, ◌∙◌}
 use mathlib.Core.List.{List}
 use Prim.Native.Nat.{◌≤◌, ◌-◌, ◌+◌}

@@ -1,4 +1,4 @@
--- `status_reader::values::decimal_value` meets its contract.
+-- `status_reader::values::decimal_value` meets its contract. Assumes nothing.
 use mathlib.Core.Path.{◌≡◌, sym}
 use Prim.Native.Nat.{◌≤◌, ◌-◌}
 use native.Mathlib.Omega.{arith}

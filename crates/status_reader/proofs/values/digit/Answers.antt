@@ -1,4 +1,4 @@
--- `status_reader::values::digit` meets its contract.
+-- `status_reader::values::digit` meets its contract. Assumes nothing.
 use mathlib.Core.Path.{◌∙◌}
 use borrow.Author.Rules.{rules}
 use borrow.Author.Tests.{lt-ltb}
