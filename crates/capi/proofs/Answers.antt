@@ -9,9 +9,7 @@ use borrow.Author.Tests.{le-leb, lt-leb, eqb-true}
 use lib.Dec.{eqb, leb}
 use lib.ListN.{length, drop, get_or}
 use lib.Seq.{sets, sets-eq}
-use types.Run.{OneOf, miss}
-use denote.Enum.Declared.{tag_of}
-use Rattle.format.specs.contracts.SheetReading.{the_type}
+use Rattle.credentials.specs.declared.Credentials.{Credentials}
 use Rattle.format.specs.declared.SheetReading.{SheetReading}
 use Rattle.format.specs.declared.SheetReading.TheVariants.{Sheet, Malformed, Invalid}
 use Rattle.format.specs.Sheet.{id_kinds, uid_kinds, gid_kinds, set_kinds, flag_kinds, sheet_kinds, sheet_code, sheet_line}
@@ -42,8 +40,8 @@ unfolding are_values sheet_kinds id_kinds uid_kinds gid_kinds set_kinds flag_kin
 fifteen vs h = eqb-true (length vs) 15 (and_first (eqb (length vs) 15) (leb (get_or vs 14 0) 1) h)
 
 -- a sheet that is not read
-pub sheet_refused : (r : SheetReading) (old : List ℕ) → OneOf (1 ∷ 2 ∷ []) (tag_of the_type r)
+pub sheet_refused : (r : SheetReading) (old : List ℕ) → ((c : Credentials) → r ≡ Sheet c → ⊥)
     → (joined (sheet_code r) (sheet_line r) ≡ sheet_number r (length old)) × (old ≡ sheet_given r old)
-sheet_refused (Sheet c) old h = absurd (miss (1 ∷ 2 ∷ []) 0 tt h)
+sheet_refused (Sheet c) old h = absurd (h c refl)
 sheet_refused (Malformed line) old h = (refl, refl)
 sheet_refused Invalid old h = (refl, refl)

@@ -7,7 +7,7 @@ use Rattle.capi.proofs.urrezkalu_read_sheet.Goals as goal
 
 pub returns-in_default : goal.returns-in_default
 returns-in_default c =
-    let r = sheet_refused c.read_sheet-answer.result c.args.values.now c.in_default.in_default-own.keys2 in
+    let r = sheet_refused c.read_sheet-answer.result c.args.values.now c.in_default.not-Sheet in
     rw (← c.read_sheet-answer.ensures) (c.joined.ensures ∙ rw (c.sheet_line.ensures, c.sheet_code.ensures) r.0, r.1)
 
 pub returns-then-values-lt-SHEET_VALUES : goal.returns-then-values-lt-SHEET_VALUES
