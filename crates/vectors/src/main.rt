@@ -17,24 +17,25 @@ mod thread;
 
 ghost use Rattle.std.specs.Prelude.{◌≤◌, length};
 
-use libc::STDIN_FILENO;
+use std::io;
 
 // How many bytes of rows are read at most.
 const LARGEST_INPUT: usize = 262144;
 
-fn main() {
+fn main(rt: HostRuntime) -> io::Result<()> {
     let mut text = [0u8; LARGEST_INPUT];
-    let size = io::read_full(STDIN_FILENO, &mut text);
-    show_lines(&text[0..size]);
+    let size = input::read_full(&mut rt.reader(), &mut text)?;
+    show_lines(&rt, &text[0..size])
 }
 
-fn show_lines(text: &[u8]) {
+fn show_lines(rt: &impl Print, text: &[u8]) -> io::Result<()> {
     let mut from = 0;
     while from < text.len() {
         let end = line_end(text, from);
-        show_line(&text[from..end]);
+        show_line(rt, &text[from..end])?;
         from = end + 1;
     }
+    Ok(())
 }
 
 // Where the line that starts at from ends: at its newline, or where the text does.
@@ -52,20 +53,20 @@ fn line_end(text: &[u8], from: usize) -> usize
     at
 }
 
-fn show_line(line: &[u8]) {
-    output::text(line);
-    output::text(b"\n");
+fn show_line(rt: &impl Print, line: &[u8]) -> io::Result<()> {
+    output::text(rt, line)?;
+    output::text(rt, b"\n")?;
     if line.len() == 0 {
-        return;
+        return Ok(());
     }
     match line[0] {
-        b'#' => (),
-        b'n' => named::show_written(line),
-        b'r' => attributes::show_reading(line),
-        b's' => steps::show_step(line),
-        b't' => named::show_text(line),
-        b'w' => attributes::show_writing(line),
-        b'v' => thread::show_validity(line),
-        _ => thread::show_call(line),
+        b'#' => Ok(()),
+        b'n' => named::show_written(rt, line),
+        b'r' => attributes::show_reading(rt, line),
+        b's' => steps::show_step(rt, line),
+        b't' => named::show_text(rt, line),
+        b'w' => attributes::show_writing(rt, line),
+        b'v' => thread::show_validity(rt, line),
+        _ => thread::show_call(rt, line),
     }
 }

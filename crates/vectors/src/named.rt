@@ -4,6 +4,7 @@ ghost use Rattle.std.specs.Prelude.{◌+◌, ◌<◌, ◌≤◌, length};
 use crate::{fields, output};
 use codes::{MALFORMED, wide};
 use names::{Reading, Sets};
+use std::io;
 
 // The most bytes of a text, and of a buffer.
 const LARGEST_TEXT: usize = 2048;
@@ -14,28 +15,28 @@ const LARGEST_ROOM: usize = 760;
 const ESCAPE: u8 = b'\\';
 
 // What the text behind `text=` is read as.
-pub(crate) fn show_text(row: &[u8]) {
+pub(crate) fn show_text(rt: &impl Print, row: &[u8]) -> io::Result<()> {
     let mut text = [0u8; LARGEST_TEXT];
     let size = text_of(row, &mut text);
     match names_reader::read_names(&text[0..size]) {
-        Reading::Means(held) => show_sets(held),
+        Reading::Means(held) => show_sets(rt, held)?,
         Reading::Malformed(place) => {
-            output::decimal(b"code=", wide(MALFORMED));
-            output::decimal(b" place=", place as u64);
+            output::decimal(rt, b"code=", wide(MALFORMED))?;
+            output::decimal(rt, b" place=", place as u64)?;
         }
     }
-    output::text(b"\n");
+    output::text(rt, b"\n")
 }
 
-fn show_sets(held: Sets) {
-    output::decimal(b"code=", 0);
-    output::hex(b" permitted=", held.permitted, 1);
-    output::hex(b" inheritable=", held.inheritable, 1);
-    output::hex(b" effective=", held.effective, 1);
+fn show_sets(rt: &impl Print, held: Sets) -> io::Result<()> {
+    output::decimal(rt, b"code=", 0)?;
+    output::hex(rt, b" permitted=", held.permitted, 1)?;
+    output::hex(rt, b" inheritable=", held.inheritable, 1)?;
+    output::hex(rt, b" effective=", held.effective, 1)
 }
 
 // The sets of `names=` in a buffer of `room=` bytes, each `.` before.
-pub(crate) fn show_written(row: &[u8]) {
+pub(crate) fn show_written(rt: &impl Print, row: &[u8]) -> io::Result<()> {
     let permitted = fields::hex(row, 0);
     let inheritable = fields::hex(row, permitted.end);
     let effective = fields::hex(row, inheritable.end);
@@ -47,18 +48,19 @@ pub(crate) fn show_written(row: &[u8]) {
     };
     let mut buffer = [b'.'; LARGEST_ROOM];
     if room <= LARGEST_ROOM {
-        write(held, &mut buffer[0..room]);
+        write(rt, held, &mut buffer[0..room])?;
     }
+    Ok(())
 }
 
 // The writer's answer, and the whole buffer afterwards.
-fn write(held: Sets, buffer: &mut [u8]) {
+fn write(rt: &impl Print, held: Sets, buffer: &mut [u8]) -> io::Result<()> {
     let answer = names_writer::write_names(held, buffer);
-    output::decimal(b"code=", wide(answer.code));
-    output::decimal(b" length=", answer.length as u64);
-    output::text(b" buffer=");
-    output::text(buffer);
-    output::text(b"\n");
+    output::decimal(rt, b"code=", wide(answer.code))?;
+    output::decimal(rt, b" length=", answer.length as u64)?;
+    output::text(rt, b" buffer=")?;
+    output::text(rt, buffer)?;
+    output::text(rt, b"\n")
 }
 
 // The row's text, byte by byte, as many as there is room for: how many they are.

@@ -1,5 +1,6 @@
 // Steps in a slot of a table of threads.
 use crate::{fields, output, tables, thread};
+use std::io;
 
 const FORK: u64 = 30;
 
@@ -33,7 +34,7 @@ fn step_of(row: &[u8]) -> Step {
 
 // What comes back from a step in a slot of the row's table: code, value, cause, the marks of use, and the credentials in the slot that a fork took, or
 // else in the one that is named.
-pub(crate) fn show_step(row: &[u8]) {
+pub(crate) fn show_step(rt: &impl Print, row: &[u8]) -> io::Result<()> {
     let step = step_of(row);
     let given = tables::table_of(row, step.end, step.slot);
     let bytes = fields::bytes(row, given.end);
@@ -51,8 +52,8 @@ pub(crate) fn show_step(row: &[u8]) {
     if (step.number == FORK) & (result.code == 0) {
         shown = result.value;
     }
-    thread::show_answer(result.code, result.value, result.cause);
-    tables::show_marks(result.table);
-    tables::show_slot(result.table, shown, result.code);
-    output::text(b"\n");
+    thread::show_answer(rt, result.code, result.value, result.cause)?;
+    tables::show_marks(rt, &result.table)?;
+    tables::show_slot(rt, &result.table, shown, result.code)?;
+    output::text(rt, b"\n")
 }

@@ -3,6 +3,7 @@ ghost use Rattle.std.specs.Prelude.{◌≤◌};
 
 use crate::{fields, output, thread};
 use credentials::{Credentials, Ids, Sets};
+use std::io;
 use threads::Threads;
 
 // How many slots there are.
@@ -109,10 +110,10 @@ fn marked(given: [bool; 96], word: u64, from: usize, end: usize) -> [bool; 96]
     used
 }
 
-pub(crate) fn show_marks(table: Threads) {
+pub(crate) fn show_marks(rt: &impl Print, table: &Threads) -> io::Result<()> {
     let used = table.used;
-    output::hex(b" used=", word(used, 0, MARKS), 1);
-    output::hex(b",", word(used, MARKS, SLOTS), 1);
+    output::hex(rt, b" used=", word(used, 0, MARKS), 1)?;
+    output::hex(rt, b",", word(used, MARKS, SLOTS), 1)
 }
 
 // The marks of some slots as such a word.
@@ -132,12 +133,13 @@ fn word(used: [bool; 96], from: usize, end: usize) -> u64
 }
 
 // The credentials in a slot, if there is such a slot. What a slot still holds that an exit freed shows nowhere.
-pub(crate) fn show_slot(table: Threads, slot: u64, code: u8) {
+pub(crate) fn show_slot(rt: &impl Print, table: &Threads, slot: u64, code: u8) -> io::Result<()> {
     if slot < SLOTS as u64 {
         let at = slot as usize;
         if table.used[at] | (code != 0) {
             let held = table.credentials[at];
-            thread::show_credentials(held);
+            thread::show_credentials(rt, held)?;
         }
     }
+    Ok(())
 }

@@ -1,6 +1,7 @@
 // Credentials: whether they are valid, and what a call makes of them.
 use crate::{fields, output};
 use credentials::{Credentials, Ids, Sets};
+use std::io;
 
 // The credentials of a row, and where they end.
 #[derive(Clone, Copy)]
@@ -83,14 +84,14 @@ fn sets_of(row: &[u8], from: usize) -> Held {
 }
 
 // Whether the row's credentials are valid.
-pub(crate) fn show_validity(row: &[u8]) {
+pub(crate) fn show_validity(rt: &impl Print, row: &[u8]) -> io::Result<()> {
     let given = start_of(row, 0).given;
-    output::flag(b"valid=", credentials::is_valid(given));
-    output::text(b"\n");
+    output::flag(rt, b"valid=", credentials::is_valid(given))?;
+    output::text(rt, b"\n")
 }
 
 // The answer to the call whose number (decimal), operands (hex) and attribute bytes follow the credentials.
-pub(crate) fn show_call(row: &[u8]) {
+pub(crate) fn show_call(rt: &impl Print, row: &[u8]) -> io::Result<()> {
     let start = start_of(row, 0);
     let number = fields::decimal(row, start.end);
     let a = fields::hex(row, number.end);
@@ -107,35 +108,36 @@ pub(crate) fn show_call(row: &[u8]) {
         &bytes[0..size],
     );
     show_answer(
+        rt,
         answers::code(answer),
         answers::value(answer),
         answers::cause(answer),
-    );
-    show_credentials(answers::after(start.given, answer));
-    output::text(b"\n");
+    )?;
+    show_credentials(rt, answers::after(start.given, answer))?;
+    output::text(rt, b"\n")
 }
 
-pub(crate) fn show_answer(code: u8, value: u64, cause: u8) {
-    output::decimal(b"code=", codes::wide(code));
-    output::hex(b" value=", value, 1);
-    output::decimal(b" cause=", codes::wide(cause));
+pub(crate) fn show_answer(rt: &impl Print, code: u8, value: u64, cause: u8) -> io::Result<()> {
+    output::decimal(rt, b"code=", codes::wide(code))?;
+    output::hex(rt, b" value=", value, 1)?;
+    output::decimal(rt, b" cause=", codes::wide(cause))
 }
 
-pub(crate) fn show_credentials(given: Credentials) {
-    show_ids(b" uids=", given.uids);
-    show_ids(b" gids=", given.gids);
-    output::hex(b" sets=", given.sets.permitted, 1);
-    output::hex(b",", given.sets.inheritable, 1);
-    output::hex(b",", given.sets.effective, 1);
-    output::hex(b",", given.sets.bounding, 1);
-    output::hex(b",", given.sets.ambient, 1);
-    output::hex(b" securebits=", given.securebits, 1);
-    output::flag(b" nnp=", given.nnp);
+pub(crate) fn show_credentials(rt: &impl Print, given: Credentials) -> io::Result<()> {
+    show_ids(rt, b" uids=", given.uids)?;
+    show_ids(rt, b" gids=", given.gids)?;
+    output::hex(rt, b" sets=", given.sets.permitted, 1)?;
+    output::hex(rt, b",", given.sets.inheritable, 1)?;
+    output::hex(rt, b",", given.sets.effective, 1)?;
+    output::hex(rt, b",", given.sets.bounding, 1)?;
+    output::hex(rt, b",", given.sets.ambient, 1)?;
+    output::hex(rt, b" securebits=", given.securebits, 1)?;
+    output::flag(rt, b" nnp=", given.nnp)
 }
 
-fn show_ids(key: &[u8], ids: Ids) {
-    output::decimal(key, ids.real);
-    output::decimal(b",", ids.effective);
-    output::decimal(b",", ids.saved);
-    output::decimal(b",", ids.filesystem);
+fn show_ids(rt: &impl Print, key: &[u8], ids: Ids) -> io::Result<()> {
+    output::decimal(rt, key, ids.real)?;
+    output::decimal(rt, b",", ids.effective)?;
+    output::decimal(rt, b",", ids.saved)?;
+    output::decimal(rt, b",", ids.filesystem)
 }
