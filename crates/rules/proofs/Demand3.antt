@@ -19,10 +19,10 @@ use Rattle.rules.proofs.OneLaunch.{one_launch}
 
 -- ---- runs
 
-one_each : (start : Credentials) (steps : List Step) → length (run start steps) ≡ length steps
+one_each : (steps : List Step) (start : Credentials) → length (run start steps) ≡ length steps
 unfolding run
-one_each start [] = refl
-one_each start (x ∷ xs) = ap suc (one_each (result start x).after xs)
+one_each [] start = refl
+one_each (x ∷ xs) start = ap suc (one_each xs _)
 
 run_append : (start : Credentials) (before rest : List Step) → run start (before ++ rest) ≡ run start before ++ run (left start before) rest
 unfolding run last_of
@@ -62,7 +62,7 @@ demand_3 start h steps =
     let v : Valid start = valid_facts start h in
     let k = list_kept start v steps in
     record {
-      one_each = one_each start steps;
+      one_each = one_each steps start;
       by_the_rules = λ before x rest e.
           ap (run start) e ∙ run_append start before (x ∷ rest) ∙ ap (λ (rs : List Result). run start before ++ rs) (run_from (left start before) x rest);
       goes_on = λ before rest e.

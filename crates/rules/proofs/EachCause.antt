@@ -6,7 +6,7 @@ use mathlib.Core.List.{List, [], ◌∷◌}
 use lib.Dec.{eqb}
 use borrow.Author.Tests.{eqb-true}
 use Rattle.capabilities.specs.Sets.{full, has, lacks, minus, outside, single}
-use Rattle.attribute.specs.Words.{Bytes, word_at, word_bytes}
+use Rattle.attribute.specs.Words.{word_at, word_bytes}
 use Rattle.attribute.specs.Reader.{file_of, length_of, reading, unreadable, version2}
 use Rattle.attribute.specs.Writer.{first_word, version2_bytes}
 use Rattle.attribute.proofs.Words.{no_bytes}

@@ -13,7 +13,6 @@ use Rattle.hex_tables.specs.Tables.{read_value_by}
 use Rattle.line_reader.specs.declared.Place.{Place}
 use Rattle.line_reader.specs.Positions.{from, Values, lines_by}
 use Rattle.line_reader.proofs.Answers.{fault_early, lines_grouped}
-use Rattle.sheet_reader.specs.declared.Front.{Front}
 use Rattle.sheet_reader.specs.declared.Front.TheVariants.{Fault}
 use Rattle.sheet_reader.specs.Positions.{judged, fronted, front_by}
 

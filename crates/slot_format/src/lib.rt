@@ -3,4 +3,3 @@
 // There are no functions: the crate `plan` has the code that reads and writes this format. What comes back for a slot plan has the types of `format`. The
 // crate assumes nothing.
 #![tactic(auto)]
-

@@ -9,7 +9,6 @@ use lib.ListN.{get_or, set}
 use lib.Seq.{set-get_or}
 use borrow.Author.Tests.{ltb-true}
 use Rattle.credentials.specs.declared.Credentials.{Credentials}
-use Rattle.rules.specs.Answers.{code, value, cause}
 use Rattle.rules.specs.Run.{Step}
 use Rattle.rules.proofs.Conditions.{cond_cases}
 use Rattle.threads.specs.Step.{SlotStep, decided, refused, forked, carried_out, step_in}

@@ -1,12 +1,12 @@
 -- The values of a wanted line, written and read, each from the other. Assumes nothing.
 use mathlib.Core.Path.{◌≡◌, refl, sym, ap, ◌∙◌}
 use mathlib.Core.List.{List, [], ◌∷◌, ◌++◌, append_assoc, append-nil}
-use Prim.Native.Nat.{ℕ, ◌+◌}
+use Prim.Native.Nat.{ℕ}
 use native.Mathlib.Omega.{arith}
 use borrow.Author.Tests.{eqb-true}
 use lib.Dec.{eqb}
 use lib.ListN.{length, length-append}
-use Rattle.format.specs.Line.{Form, value_text, Read, read, fault_at, next, mapped, newline, bytes, read_value, keyed_text, after_key}
+use Rattle.format.specs.Line.{Form, value_text, Read, read, fault_at, mapped, newline, bytes, read_value, keyed_text, after_key}
 use Rattle.format.proofs.Fitting.{Fits}
 use Rattle.format.proofs.Reading.{fault_read, tested, next_told, mapped_told}
 use Rattle.format.proofs.WrittenRead.{keyed_read, key_read}

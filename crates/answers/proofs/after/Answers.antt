@@ -1,5 +1,4 @@
 -- `answers::after` meets its contract. Assumes nothing.
-use borrow.Author.Rules.{rules}
 use Rattle.answers.proofs.after.Goals as goal
 
 pub returns-in-Done : goal.returns-in-Done

@@ -1,5 +1,4 @@
 -- `answers::value` meets its contract. Assumes nothing.
-use borrow.Author.Rules.{rules}
 use Rattle.answers.proofs.value.Goals as goal
 
 pub returns-in-Done : goal.returns-in-Done

@@ -2,7 +2,6 @@
 use borrow.Author.Tests.{eq-eqb, ne_eqb}
 use Rattle.format.specs.Sheet.{id_kinds, uid_kinds, gid_kinds, set_kinds, flag_kinds, sheet_kinds}
 use Rattle.capi.specs.Interface.{are_values}
-use borrow.Author.Rules.{rules}
 use Rattle.capi.proofs.are_values.Goals as goal
 
 pub returns-then-values-eq-SHEET_VALUES : goal.returns-then-values-eq-SHEET_VALUES

@@ -1,6 +1,5 @@
 -- `capi::beside_sheet` meets its contract. Assumes nothing.
 use mathlib.Core.Path.{refl, sym, ap, ◌∙◌}
-use borrow.Author.Rules.{rules}
 use Rattle.capi.specs.Interface.{list_number}
 use Rattle.capi.proofs.beside_sheet.Goals as goal
 

@@ -4,7 +4,6 @@ use native.Mathlib.Omega.{arith}
 use lib.ListN.{length-set}
 use Rattle.capi.specs.Interface.{named_values}
 use Rattle.capi.proofs.Answers.{given, no_room, stored}
-use borrow.Author.Rules.{rules}
 use Rattle.capi.proofs.give_names.Goals as goal
 
 pub returns-then-values-lt-NAMED_VALUES : goal.returns-then-values-lt-NAMED_VALUES

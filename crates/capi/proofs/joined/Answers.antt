@@ -1,7 +1,6 @@
 -- `capi::joined` meets its contract. Assumes nothing.
 use mathlib.Core.Path.{refl}
 use Rattle.capi.specs.Interface.{joined}
-use borrow.Author.Rules.{rules}
 use Rattle.capi.proofs.joined.Goals as goal
 
 pub returns : goal.returns

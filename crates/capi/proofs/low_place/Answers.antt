@@ -1,7 +1,6 @@
 -- `capi::low_place` meets its contract. Assumes nothing.
 use borrow.Author.Tests.{le-ltb, lt-ltb}
 use Rattle.capi.specs.Interface.{low_place}
-use borrow.Author.Rules.{rules}
 use Rattle.capi.proofs.low_place.Goals as goal
 
 pub returns-then-place-lt-LARGEST_PLACE : goal.returns-then-place-lt-LARGEST_PLACE

@@ -4,7 +4,6 @@ use lib.ListN.{length-set}
 use Rattle.rules.proofs.Flags.{cast_is_number}
 use Rattle.format.specs.Sheet.{sheet_values}
 use Rattle.capi.proofs.Answers.{stored}
-use borrow.Author.Rules.{rules}
 use Rattle.capi.proofs.put_credentials.Goals as goal
 
 pub bounds-values-1 : goal.bounds-values-1

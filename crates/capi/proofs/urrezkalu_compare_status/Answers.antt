@@ -1,7 +1,6 @@
 -- `capi::urrezkalu_compare_status` meets its contract. Assumes nothing.
 use mathlib.Core.Path.{refl, sym, ap, ◌∙◌}
 use Prim.Native.Nat.{ℕ}
-use borrow.Author.Rules.{rules}
 use Rattle.capi.specs.Interface.{joined}
 use Rattle.capi.proofs.urrezkalu_compare_status.Goals as goal
 

@@ -2,7 +2,6 @@
 use mathlib.Core.Path.{refl, sym, ◌∙◌}
 use Rattle.capi.specs.Interface.{file_values}
 use Rattle.capi.proofs.Answers.{given, no_room}
-use borrow.Author.Rules.{rules}
 use Rattle.capi.proofs.urrezkalu_read_attribute.Goals as goal
 
 pub returns-in_default : goal.returns-in_default

@@ -2,7 +2,6 @@
 use mathlib.Core.Path.{refl, sym, ap, ◌∙◌}
 use Prim.Native.Nat.{ℕ}
 use Rattle.capi.specs.Interface.{joined}
-use borrow.Author.Rules.{rules}
 use Rattle.capi.proofs.urrezkalu_read_names.Goals as goal
 
 pub returns-in-Malformed : goal.returns-in-Malformed

@@ -2,7 +2,6 @@
 use mathlib.Core.Path.{sym, ◌∙◌}
 use Rattle.format.specs.Sheet.{sheet_values}
 use Rattle.capi.proofs.Answers.{given, no_room, sheet_refused}
-use borrow.Author.Rules.{rules}
 use Rattle.capi.proofs.urrezkalu_read_sheet.Goals as goal
 
 pub returns-in_default : goal.returns-in_default

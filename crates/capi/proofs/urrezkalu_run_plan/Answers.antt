@@ -1,6 +1,5 @@
 -- `capi::urrezkalu_run_plan` meets its contract. Assumes nothing.
 use mathlib.Core.Path.{refl}
-use borrow.Author.Rules.{rules}
 use Rattle.capi.proofs.urrezkalu_run_plan.Goals as goal
 
 pub returns : goal.returns

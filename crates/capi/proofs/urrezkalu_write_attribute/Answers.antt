@@ -2,7 +2,6 @@
 use mathlib.Core.Path.{refl}
 use borrow.Author.Tests.{le-leb, lt-leb}
 use Rattle.capi.specs.Interface.{bit_written, bit_buffer}
-use borrow.Author.Rules.{rules}
 use Rattle.capi.proofs.urrezkalu_write_attribute.Goals as goal
 
 pub returns-then-effective-le1 : goal.returns-then-effective-le1

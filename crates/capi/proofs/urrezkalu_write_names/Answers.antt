@@ -1,7 +1,6 @@
 -- `capi::urrezkalu_write_names` meets its contract. Assumes nothing.
 use mathlib.Core.Path.{ap, ◌∙◌}
 use Rattle.capi.specs.Interface.{written_number}
-use borrow.Author.Rules.{rules}
 use Rattle.capi.proofs.urrezkalu_write_names.Goals as goal
 
 pub returns : goal.returns

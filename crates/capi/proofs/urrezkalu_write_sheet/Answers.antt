@@ -2,7 +2,6 @@
 use mathlib.Core.Path.{refl, sym, ◌∙◌}
 use Rattle.capi.specs.Interface.{values_written, values_buffer}
 use Rattle.capi.proofs.Answers.{fifteen}
-use borrow.Author.Rules.{rules}
 use Rattle.capi.proofs.urrezkalu_write_sheet.Goals as goal
 
 pub credentials_of-requires : goal.credentials_of-requires

@@ -1,7 +1,6 @@
 -- `sheet_reader::read_flags` meets its contract. Assumes nothing.
 use Rattle.format.specs.Sheet.{flag_kinds}
 use Rattle.line_reader.specs.Positions.{lines_at}
-use borrow.Author.Rules.{rules}
 use Rattle.sheet_reader.proofs.read_flags.Goals as goal
 
 pub returns : goal.returns

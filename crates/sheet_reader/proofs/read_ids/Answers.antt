@@ -1,7 +1,6 @@
 -- `sheet_reader::read_ids` meets its contract. Assumes nothing.
 use Rattle.format.specs.Sheet.{id_kinds}
 use Rattle.line_reader.specs.Positions.{lines_at}
-use borrow.Author.Rules.{rules}
 use Rattle.sheet_reader.proofs.read_ids.Goals as goal
 
 pub returns : goal.returns

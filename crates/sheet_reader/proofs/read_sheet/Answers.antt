@@ -2,7 +2,6 @@
 use mathlib.Core.Path.{◌∙◌}
 use Rattle.sheet_reader.proofs.Format.{front_is}
 use Rattle.sheet_reader.proofs.Whole.{front_told, front_told_invalid, sheet_fault, sheet_longer, sheet_whole, sheet_invalid}
-use borrow.Author.Rules.{rules}
 use Rattle.sheet_reader.proofs.read_sheet.Goals as goal
 
 pub returns-in-Fault : goal.returns-in-Fault

@@ -2,7 +2,6 @@
 use mathlib.Core.Path.{sym, ◌∙◌}
 use native.Mathlib.Omega.{arith}
 use Rattle.sheet_writer.proofs.Answers.{sheet_written, sheet_no_room, sheet_invalid}
-use borrow.Author.Rules.{rules}
 use Rattle.sheet_writer.proofs.write_at.Goals as goal
 
 pub returns-then-len-size : goal.returns-then-len-size

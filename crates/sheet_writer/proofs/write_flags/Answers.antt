@@ -2,7 +2,6 @@
 use Rattle.rules.proofs.Flags.{cast_is_number}
 use Rattle.format.specs.Sheet.{flag_kinds}
 use Rattle.line_writer.specs.Inside.{lines_put}
-use borrow.Author.Rules.{rules}
 use Rattle.sheet_writer.proofs.write_flags.Goals as goal
 
 pub returns : goal.returns

@@ -1,7 +1,6 @@
 -- `sheet_writer::write_ids` meets its contract. Assumes nothing.
 use Rattle.format.specs.Sheet.{id_kinds}
 use Rattle.line_writer.specs.Inside.{lines_put}
-use borrow.Author.Rules.{rules}
 use Rattle.sheet_writer.proofs.write_ids.Goals as goal
 
 pub returns : goal.returns

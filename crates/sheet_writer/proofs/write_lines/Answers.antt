@@ -1,7 +1,6 @@
 -- `sheet_writer::write_lines` meets its contract. Assumes nothing.
 use Rattle.format.specs.Sheet.{uid_kinds, gid_kinds}
 use Rattle.sheet_writer.proofs.Groups.{sheet_put}
-use borrow.Author.Rules.{rules}
 use Rattle.sheet_writer.proofs.write_lines.Goals as goal
 
 pub returns : goal.returns

@@ -1,7 +1,6 @@
 -- `sheet_writer::write_sets` meets its contract. Assumes nothing.
 use Rattle.format.specs.Sheet.{set_kinds}
 use Rattle.line_writer.specs.Inside.{lines_put}
-use borrow.Author.Rules.{rules}
 use Rattle.sheet_writer.proofs.write_sets.Goals as goal
 
 pub returns : goal.returns

@@ -1,7 +1,6 @@
 -- `sheet_writer::write_sheet` meets its contract. Assumes nothing.
 use mathlib.Core.Path.{◌∙◌}
 use Rattle.sheet_writer.proofs.Answers.{at_the_front, buffer_by_the_table}
-use borrow.Author.Rules.{rules}
 use Rattle.sheet_writer.proofs.write_sheet.Goals as goal
 
 pub returns : goal.returns

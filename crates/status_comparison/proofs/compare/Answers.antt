@@ -1,6 +1,5 @@
 -- `status_comparison::compare` meets its contract. Assumes nothing.
 use mathlib.Core.Path.{refl, sym, ◌∙◌}
-use borrow.Author.Rules.{rules}
 use Rattle.status_comparison.proofs.Laws.{compared_fault, compared_found}
 use Rattle.status_comparison.proofs.compare.Goals as goal
 

@@ -4,7 +4,6 @@ use native.Mathlib.Omega.{arith}
 use borrow.Author.Tests.{eq-eqb, ne_eqb}
 use Rattle.status.specs.Lines.{id_form}
 use Rattle.status_comparison.proofs.Laws.{line_length}
-use borrow.Author.Rules.{rules}
 use Rattle.status_comparison.proofs.id_length.Goals as goal
 
 pub returns-then-predicted-found : goal.returns-then-predicted-found

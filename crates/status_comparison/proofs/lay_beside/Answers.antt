@@ -2,7 +2,6 @@
 use mathlib.Core.Path.{sym, ◌∙◌}
 use native.Mathlib.Omega.{arith}
 use Rattle.status_comparison.proofs.Laws.{not_valid, no_room, is_written}
-use borrow.Author.Rules.{rules}
 use Rattle.status_comparison.proofs.lay_beside.Goals as goal
 
 pub returns-then-list-size : goal.returns-then-list-size

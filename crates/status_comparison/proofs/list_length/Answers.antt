@@ -2,7 +2,6 @@
 use native.Mathlib.Omega.{arith}
 use Rattle.rules.proofs.Flags.{cast_is_number}
 use Rattle.status_comparison.proofs.Laws.{list_length}
-use borrow.Author.Rules.{rules}
 use Rattle.status_comparison.proofs.list_length.Goals as goal
 
 pub returns : goal.returns

@@ -5,7 +5,6 @@ use borrow.Author.Tests.{eq-eqb, ne_eqb}
 use Rattle.format.proofs.Lengths.{length_hex}
 use Rattle.status.specs.Lines.{set_form}
 use Rattle.status_comparison.proofs.Laws.{line_length}
-use borrow.Author.Rules.{rules}
 use Rattle.status_comparison.proofs.set_length.Goals as goal
 
 pub returns-then-predicted-found : goal.returns-then-predicted-found

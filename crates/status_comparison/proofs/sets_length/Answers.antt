@@ -1,7 +1,6 @@
 -- `status_comparison::sets_length` meets its contract. Assumes nothing.
 use native.Mathlib.Omega.{arith}
 use Rattle.status_comparison.proofs.Laws.{sets_length}
-use borrow.Author.Rules.{rules}
 use Rattle.status_comparison.proofs.sets_length.Goals as goal
 
 pub returns : goal.returns

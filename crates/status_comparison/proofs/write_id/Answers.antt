@@ -2,7 +2,6 @@
 use borrow.Author.Tests.{eq-eqb, ne_eqb}
 use Rattle.format.specs.Line.{decimal_text}
 use Rattle.status_comparison.proofs.Laws.{put_nothing, past_some, line_put}
-use borrow.Author.Rules.{rules}
 use Rattle.status_comparison.proofs.write_id.Goals as goal
 
 pub returns-then-predicted-found : goal.returns-then-predicted-found

@@ -1,7 +1,6 @@
 -- `status_comparison::write_ids` meets its contract. Assumes nothing.
 use native.Mathlib.Omega.{arith}
 use Rattle.status_comparison.proofs.Laws.{ids_lines, ids_length, put_then}
-use borrow.Author.Rules.{rules}
 use Rattle.status_comparison.proofs.write_ids.Goals as goal
 
 pub write_id-p-requires : goal.write_id-p-requires

@@ -3,7 +3,6 @@ use native.Mathlib.Omega.{arith}
 use Rattle.rules.proofs.Flags.{cast_is_number}
 use Rattle.status.specs.Comparing.{last_line}
 use Rattle.status_comparison.proofs.Laws.{list_lines, list_length, put_then, put_text}
-use borrow.Author.Rules.{rules}
 use Rattle.status_comparison.proofs.write_list.Goals as goal
 
 pub write_ids-p-requires : goal.write_ids-p-requires

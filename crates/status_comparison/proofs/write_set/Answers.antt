@@ -2,7 +2,6 @@
 use borrow.Author.Tests.{eq-eqb, ne_eqb}
 use Rattle.hex_tables.specs.Tables.{hex_text_by}
 use Rattle.status_comparison.proofs.Laws.{put_nothing, past_some, line_put, by_the_table}
-use borrow.Author.Rules.{rules}
 use Rattle.status_comparison.proofs.write_set.Goals as goal
 
 pub returns-then-predicted-found : goal.returns-then-predicted-found

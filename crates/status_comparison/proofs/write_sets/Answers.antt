@@ -1,7 +1,6 @@
 -- `status_comparison::write_sets` meets its contract. Assumes nothing.
 use native.Mathlib.Omega.{arith}
 use Rattle.status_comparison.proofs.Laws.{sets_lines, sets_length, put_then}
-use borrow.Author.Rules.{rules}
 use Rattle.status_comparison.proofs.write_sets.Goals as goal
 
 pub write_set-p-requires : goal.write_set-p-requires

@@ -2,8 +2,6 @@
 use mathlib.Core.Path.{sym, ◌∙◌}
 use mathlib.Core.List.{[]}
 use mathlib.Core.Bool.{false}
-use native.Mathlib.Omega.{arith}
-use borrow.Author.Rules.{rules}
 use Rattle.status_reader.specs.declared.places.Place.{Place}
 use Rattle.status_reader.proofs.PlaceLaws.{answered, seven, after_fault, no_fault, fault_further, all_read}
 use Rattle.status_reader.proofs.read_status.Goals as goal

@@ -1,7 +1,6 @@
 -- `attribute::reader::file_of` meets its contract. Assumes nothing.
 use Rattle.attribute.specs.Reader.{file_of}
 use borrow.Author.Tests.{eq-eqb, ne_eqb}
-use borrow.Author.Rules.{rules}
 use Rattle.attribute.proofs.reader.file_of.Goals as goal
 
 pub returns-then-word-eq1 : goal.returns-then-word-eq1

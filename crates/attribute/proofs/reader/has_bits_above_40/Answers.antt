@@ -1,5 +1,4 @@
 -- `attribute::reader::has_bits_above_40` meets its contract. Assumes nothing.
-use borrow.Author.Rules.{rules}
 use Rattle.attribute.proofs.reader.has_bits_above_40.Goals as goal
 
 pub returns : goal.returns

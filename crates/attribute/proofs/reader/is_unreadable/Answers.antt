@@ -1,6 +1,5 @@
 -- `attribute::reader::is_unreadable` meets its contract. Assumes nothing.
 use Rattle.attribute.specs.Reader.{unreadable}
-use borrow.Author.Rules.{rules}
 use Rattle.attribute.proofs.reader.is_unreadable.Goals as goal
 
 pub returns : goal.returns

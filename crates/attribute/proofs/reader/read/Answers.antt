@@ -1,7 +1,6 @@
 -- `attribute::reader::read` meets its contract. Assumes nothing.
 use Rattle.attribute.specs.Reader.{reading}
 use borrow.Author.Tests.{eq-eqb, ne_eqb}
-use borrow.Author.Rules.{rules}
 use Rattle.attribute.proofs.reader.read.Goals as goal
 
 pub returns-then-bytes-eq0 : goal.returns-then-bytes-eq0

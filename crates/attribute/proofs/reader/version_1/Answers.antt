@@ -1,6 +1,5 @@
 -- `attribute::reader::version_1` meets its contract. Assumes nothing.
 use Rattle.attribute.specs.Reader.{version1}
-use borrow.Author.Rules.{rules}
 use Rattle.attribute.proofs.reader.version_1.Goals as goal
 
 pub returns : goal.returns

@@ -1,6 +1,5 @@
 -- `attribute::reader::version_2` meets its contract. Assumes nothing.
 use Rattle.attribute.specs.Reader.{version2}
-use borrow.Author.Rules.{rules}
 use Rattle.attribute.proofs.reader.version_2.Goals as goal
 
 pub returns : goal.returns

@@ -1,13 +1,11 @@
 -- `attribute::reader::word` meets its contract. Assumes nothing.
 use Rattle.attribute.specs.Words.{word_at}
 use native.Mathlib.Omega.{arith}
-use borrow.Author.Rules.{rules}
 use Rattle.attribute.proofs.reader.word.Goals as goal
 
 pub returns : goal.returns
 unfolding word_at
-returns c =
-    (
+returns c = (
   simp (
     ← c.byte-4.ensures.0,
     ← c.byte-3.ensures.0,

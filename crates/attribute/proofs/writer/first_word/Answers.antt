@@ -1,6 +1,5 @@
 -- `attribute::writer::first_word` meets its contract. Assumes nothing.
 use Rattle.attribute.specs.Writer.{first_word}
-use borrow.Author.Rules.{rules}
 use Rattle.attribute.proofs.writer.first_word.Goals as goal
 
 pub returns-then-effective : goal.returns-then-effective

@@ -3,7 +3,6 @@ use native.Mathlib.Omega.{arith}
 use lib.ListN.{length-set}
 use Rattle.attribute.specs.Words.{word_bytes}
 use Rattle.attribute.proofs.Stores.{four_stores}
-use borrow.Author.Rules.{rules}
 use Rattle.attribute.proofs.writer.put_word.Goals as goal
 
 pub bounds-buffer-at-2 : goal.bounds-buffer-at-2

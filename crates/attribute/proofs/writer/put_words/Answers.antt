@@ -5,7 +5,6 @@ use lib.Seq.{sets}
 use Rattle.attribute.specs.Words.{word_bytes}
 use Rattle.attribute.specs.Writer.{first_word, version2_bytes}
 use Rattle.attribute.proofs.Stores.{five_words}
-use borrow.Author.Rules.{rules}
 use Rattle.attribute.proofs.writer.put_words.Goals as goal
 
 pub returns : goal.returns

@@ -2,7 +2,6 @@
 use mathlib.Core.Path.{sym, ap, ◌∙◌}
 use lib.Dec.{lit<}
 use lib.ListN.{length}
-use borrow.Author.Rules.{rules}
 use Rattle.attribute.specs.declared.Written.{Written}
 use Rattle.attribute.proofs.Outcomes.{out_of_range, no_room, is_done, refused_buffer, done_buffer}
 use Rattle.attribute.proofs.Stores.{stored_in_front}

@@ -1,7 +1,6 @@
 -- `calls::ambient::ambient_is_set` meets its contract. Assumes nothing.
 use Rattle.rules.proofs.Flags.{cast_is_number}
 use Rattle.rules.specs.Ambient.{ambient_is_set}
-use borrow.Author.Rules.{rules}
 use Rattle.calls.proofs.ambient.ambient_is_set.Goals as goal
 
 pub returns : goal.returns

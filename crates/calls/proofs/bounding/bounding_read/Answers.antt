@@ -1,7 +1,6 @@
 -- `calls::bounding::bounding_read` meets its contract. Assumes nothing.
 use Rattle.rules.specs.Bounding.{bounding_read}
 use Rattle.rules.proofs.Flags.{cast_is_number}
-use borrow.Author.Rules.{rules}
 use Rattle.calls.proofs.bounding.bounding_read.Goals as goal
 
 pub returns : goal.returns

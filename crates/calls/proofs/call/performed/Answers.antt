@@ -1,5 +1,4 @@
 -- `calls::call::performed` meets its contract. Assumes nothing.
-use borrow.Author.Rules.{rules}
 use Rattle.calls.proofs.call.performed.Goals as goal
 
 pub returns-in-Execve : goal.returns-in-Execve

@@ -1,5 +1,4 @@
 -- `calls::group_ids::filesystem_group_id_changed` meets its contract. Assumes nothing.
-use borrow.Author.Rules.{rules}
 use Rattle.calls.proofs.group_ids.filesystem_group_id_changed.Goals as goal
 
 pub returns-in_default : goal.returns-in_default

@@ -1,5 +1,4 @@
 -- `calls::group_ids::group_ids_changed` meets its contract. Assumes nothing.
-use borrow.Author.Rules.{rules}
 use Rattle.calls.proofs.group_ids.group_ids_changed.Goals as goal
 
 pub returns-in_default : goal.returns-in_default

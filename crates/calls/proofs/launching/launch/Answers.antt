@@ -1,6 +1,5 @@
 -- `calls::launching::launch` meets its contract. Assumes nothing.
 use Rattle.rules.specs.Launching.{launch}
-use borrow.Author.Rules.{rules}
 use Rattle.calls.proofs.launching.launch.Goals as goal
 
 pub returns-in_default : goal.returns-in_default

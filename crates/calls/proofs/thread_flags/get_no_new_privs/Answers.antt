@@ -1,7 +1,6 @@
 -- `calls::thread_flags::get_no_new_privs` meets its contract. Assumes nothing.
 use Rattle.rules.proofs.Flags.{cast_is_number}
 use Rattle.rules.specs.ThreadFlags.{get_no_new_privs}
-use borrow.Author.Rules.{rules}
 use Rattle.calls.proofs.thread_flags.get_no_new_privs.Goals as goal
 
 pub returns : goal.returns

@@ -1,5 +1,4 @@
 -- `calls::user_ids::user_ids_changed` meets its contract. Assumes nothing.
-use borrow.Author.Rules.{rules}
 use Rattle.calls.proofs.user_ids.user_ids_changed.Goals as goal
 
 pub returns-in_default : goal.returns-in_default

@@ -1,6 +1,5 @@
 -- `capabilities::sets::has` meets its contract. Assumes nothing.
 use mathlib.Core.Path.{sym}
-use borrow.Author.Rules.{rules}
 use Rattle.capabilities.proofs.Masks.{has_code}
 use Rattle.capabilities.proofs.Membership.{has_above}
 use Rattle.capabilities.proofs.sets.has.Goals as goal

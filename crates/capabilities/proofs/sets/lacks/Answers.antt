@@ -1,7 +1,6 @@
 -- `capabilities::sets::lacks` meets its contract. Assumes nothing.
 use mathlib.Core.Path.{ap}
 use mathlib.Core.Bool.{not}
-use borrow.Author.Rules.{rules}
 use Rattle.capabilities.specs.Sets.{lacks}
 use Rattle.capabilities.proofs.sets.lacks.Goals as goal
 

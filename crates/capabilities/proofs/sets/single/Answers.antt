@@ -1,5 +1,4 @@
 -- `capabilities::sets::single` meets its contract. Assumes nothing.
-use borrow.Author.Rules.{rules}
 use borrow.Author.Tests.{le-ltb}
 use Rattle.capabilities.specs.Sets.{single}
 use Rattle.capabilities.proofs.Masks.{single_code}

@@ -1,5 +1,4 @@
 -- `credentials::validity::ambient_is_held` meets its contract. Assumes nothing.
-use borrow.Author.Rules.{rules}
 use Rattle.credentials.proofs.validity.ambient_is_held.Goals as goal
 
 pub returns : goal.returns

@@ -1,5 +1,4 @@
 -- `credentials::validity::has_no_bit_above_40` meets its contract. Assumes nothing.
-use borrow.Author.Rules.{rules}
 use Rattle.credentials.proofs.validity.has_no_bit_above_40.Goals as goal
 
 pub returns : goal.returns

@@ -1,6 +1,5 @@
 -- `credentials::validity::is_valid` meets its contract. Assumes nothing.
 use Rattle.credentials.specs.Validity.{valid}
-use borrow.Author.Rules.{rules}
 use Rattle.credentials.proofs.validity.is_valid.Goals as goal
 
 pub returns : goal.returns

@@ -1,5 +1,5 @@
 -- `line_reader::digits::decimal_digit` meets its contract. Assumes nothing.
-use Rattle.std.proofs.Common.{rules, le-ltb, lt-ltb}
+use Rattle.std.proofs.Common.{le-ltb, lt-ltb}
 use Rattle.line_reader.proofs.digits.decimal_digit.Goals as goal
 
 pub returns-then-b-lt-ZERO : goal.returns-then-b-lt-ZERO

@@ -1,5 +1,5 @@
 -- `line_reader::lines::bytes_line` meets its contract. Assumes nothing.
-use Rattle.std.proofs.Common.{sym, ◌∙◌, arith, rules}
+use Rattle.std.proofs.Common.{sym, ◌∙◌, arith}
 use Rattle.line_reader.proofs.Pairs.{attribute_short, attribute_there, attribute_missing}
 use Rattle.line_reader.proofs.lines.bytes_line.Goals as goal
 

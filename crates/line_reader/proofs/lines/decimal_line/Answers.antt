@@ -1,5 +1,5 @@
 -- `line_reader::lines::decimal_line` meets its contract. Assumes nothing.
-use Rattle.std.proofs.Common.{◌+◌, length, sym, ◌∙◌, arith, rules, le-ltb, lt-ltb, le-leb}
+use Rattle.std.proofs.Common.{◌+◌, length, sym, ◌∙◌, arith, le-ltb, lt-ltb, le-leb}
 use Rattle.format.specs.Line.{read_decimal}
 use Rattle.line_reader.proofs.LineLaws.{decimal_line_short, decimal_step, line_there, line_missing}
 use borrow.Author.Tests.{lt-leb}

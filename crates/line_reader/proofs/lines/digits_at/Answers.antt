@@ -1,6 +1,5 @@
 -- `line_reader::lines::digits_at` meets its contract. Assumes nothing.
-use Rattle.std.proofs.Common.{◌≡◌, ◌+◌, ◌-◌, ◌≤◌, length, drop, sym, refl, ap, arith, rules, le-ltb, lt-ltb, eq-eqb, ne_eqb, le-leb}
-use Rattle.format.specs.Line.{read_digits}
+use Rattle.std.proofs.Common.{◌+◌, sym, refl, ap, arith, rules, le-ltb, lt-ltb, eq-eqb, ne_eqb, le-leb}
 use Rattle.line_reader.specs.declared.lines.Line.TheVariants.{Is}
 use Rattle.line_reader.proofs.LineLaws.{position, digits_step, digits_end}
 use borrow.Author.Tests.{lt-leb}

@@ -1,9 +1,6 @@
 -- `line_reader::lines::digits_at`: what its loops keep, and why they end.
-use Rattle.std.proofs.Common.{◌≡◌, ◌+◌, ◌-◌, ◌≤◌, length, drop, sym, refl, ap, arith, rules, le-ltb, lt-ltb, eq-eqb, ne_eqb, le-leb}
+use Rattle.std.proofs.Common.{◌≡◌, ◌-◌, ◌≤◌, length, drop}
 use Rattle.format.specs.Line.{read_digits}
-use Rattle.line_reader.specs.declared.lines.Line.TheVariants.{Is}
-use Rattle.line_reader.proofs.LineLaws.{position, digits_step, digits_end}
-use borrow.Author.Tests.{lt-leb}
 use Rattle.line_reader.proofs.lines.digits_at.Given as goal
 
 abbrev pub invariant-loop-i : goal.invariant-loop-i

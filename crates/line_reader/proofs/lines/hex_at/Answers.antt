@@ -1,9 +1,8 @@
 -- `line_reader::lines::hex_at` meets its contract. Assumes nothing.
-use Rattle.std.proofs.Common.{◌≡◌, ◌+◌, ◌-◌, ◌^◌, ◌<◌, ◌≤◌, drop, sym, add-zero, arith, rules, le-ltb, lt-ltb}
+use Rattle.std.proofs.Common.{◌+◌, ◌-◌, sym, add-zero, arith, rules, le-ltb, lt-ltb}
 use native.Mathlib.Nat.{sub-zero}
 use Rattle.line_reader.proofs.LineLaws.{hex_step, hex_end}
 use Rattle.format.proofs.Digits.{hex_room, hex_grows}
-use Rattle.line_reader.specs.Inside.{hex_of}
 use Rattle.line_reader.proofs.lines.hex_at.Goals as goal
 
 pub loop-k-init : goal.loop-k-init

@@ -1,8 +1,5 @@
 -- `line_reader::lines::hex_at`: what its loops keep, and why they end.
-use Rattle.std.proofs.Common.{◌≡◌, ◌+◌, ◌-◌, ◌^◌, ◌<◌, ◌≤◌, drop, sym, add-zero, arith, rules, le-ltb, lt-ltb}
-use native.Mathlib.Nat.{sub-zero}
-use Rattle.line_reader.proofs.LineLaws.{hex_step, hex_end}
-use Rattle.format.proofs.Digits.{hex_room, hex_grows}
+use Rattle.std.proofs.Common.{◌≡◌, ◌+◌, ◌-◌, ◌^◌, ◌<◌, ◌≤◌, drop}
 use Rattle.line_reader.specs.Inside.{hex_of}
 use Rattle.line_reader.proofs.lines.hex_at.Given as goal
 

@@ -1,5 +1,5 @@
 -- `line_reader::lines::hex_line` meets its contract. Assumes nothing.
-use Rattle.std.proofs.Common.{sym, ◌∙◌, arith, rules, eq-eqb, ne_eqb}
+use Rattle.std.proofs.Common.{sym, ◌∙◌, arith, eq-eqb, ne_eqb}
 use Rattle.hex_tables.specs.Tables.{read_hex_by}
 use Rattle.line_reader.proofs.LineLaws.{hex_line_short, hex_line_no, hex_line_is, hex_line_longer, line_missing}
 use Rattle.line_reader.proofs.lines.hex_line.Goals as goal

@@ -1,6 +1,5 @@
 -- `line_reader::lines::pairs_at` meets its contract. Assumes nothing.
-use Rattle.std.proofs.Common.{◌≡◌, ◌+◌, ◌-◌, ◌≤◌, [], length, take, drop, replicate, refl, add-one, arith, length-set, take-suc-set, rules, le-ltb, lt-ltb, ne_eqb}
-use Rattle.hex_tables.specs.Tables.{read_pairs_by}
+use Rattle.std.proofs.Common.{◌+◌, ◌-◌, take, refl, add-one, arith, length-set, take-suc-set, rules, le-ltb, lt-ltb, ne_eqb}
 use Rattle.line_reader.proofs.Pairs.{pairs_newline, pairs_full, pairs_no_digit, pairs_one, pairs_two, pairs_end, zeros_left, attribute_found}
 use Rattle.line_reader.proofs.lines.pairs_at.Goals as goal
 

@@ -1,7 +1,6 @@
 -- `line_reader::lines::pairs_at`: what its loops keep, and why they end.
-use Rattle.std.proofs.Common.{◌≡◌, ◌+◌, ◌-◌, ◌≤◌, [], length, take, drop, replicate, refl, add-one, arith, length-set, take-suc-set, rules, le-ltb, lt-ltb, ne_eqb}
+use Rattle.std.proofs.Common.{◌≡◌, ◌-◌, ◌≤◌, [], length, take, drop, replicate}
 use Rattle.hex_tables.specs.Tables.{read_pairs_by}
-use Rattle.line_reader.proofs.Pairs.{pairs_newline, pairs_full, pairs_no_digit, pairs_one, pairs_two, pairs_end, zeros_left, attribute_found}
 use Rattle.line_reader.proofs.lines.pairs_at.Given as goal
 
 abbrev pub invariant-loop-i : goal.invariant-loop-i

@@ -1,7 +1,6 @@
 -- `line_reader::lines::starts_with` meets its contract. Assumes nothing.
-use Rattle.std.proofs.Common.{◌≡◌, ◌+◌, ◌-◌, ◌≤◌, drop, sym, add-zero, arith, rules, eq-eqb, ne_eqb}
+use Rattle.std.proofs.Common.{◌+◌, sym, add-zero, arith, rules, eq-eqb, ne_eqb}
 use Rattle.format.proofs.Keys.{starts_step, starts_end}
-use Rattle.format.specs.Line.{starts_with}
 use Rattle.line_reader.proofs.lines.starts_with.Goals as goal
 
 pub loop-k-init : goal.loop-k-init

@@ -1,6 +1,5 @@
 -- `line_reader::lines::starts_with`: what its loops keep, and why they end.
-use Rattle.std.proofs.Common.{◌≡◌, ◌+◌, ◌-◌, ◌≤◌, drop, sym, add-zero, arith, rules, eq-eqb, ne_eqb}
-use Rattle.format.proofs.Keys.{starts_step, starts_end}
+use Rattle.std.proofs.Common.{◌≡◌, ◌+◌, ◌-◌, ◌≤◌, drop}
 use Rattle.format.specs.Line.{starts_with}
 use Rattle.line_reader.proofs.lines.starts_with.Given as goal
 

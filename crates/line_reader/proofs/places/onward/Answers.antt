@@ -1,5 +1,4 @@
 -- `line_reader::places::onward` meets its contract. Assumes nothing.
-use Rattle.std.proofs.Common.{rules}
 use Rattle.line_reader.proofs.places.onward.Goals as goal
 
 pub returns-in_default : goal.returns-in_default

@@ -1,5 +1,5 @@
 -- `line_reader::places::read_hex16` meets its contract. Assumes nothing.
-use Rattle.std.proofs.Common.{sym, ◌∙◌, rules}
+use Rattle.std.proofs.Common.{sym, ◌∙◌}
 use Rattle.line_reader.proofs.Answers.{number_by, number_there}
 use Rattle.line_reader.proofs.places.read_hex16.Goals as goal
 

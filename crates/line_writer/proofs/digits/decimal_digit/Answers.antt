@@ -1,6 +1,5 @@
 -- `line_writer::digits::decimal_digit` meets its contract. Assumes nothing.
 use borrow.Author.Tests.{lt-ltb}
-use borrow.Author.Rules.{rules}
 use Rattle.line_writer.proofs.digits.decimal_digit.Goals as goal
 
 pub returns : goal.returns

@@ -1,10 +1,6 @@
 -- `line_writer::lines::decimal_length` meets its contract. Assumes nothing.
-use mathlib.Core.Path.{◌≡◌, ◌∙◌}
-use Prim.Native.Nat.{◌≤◌, ◌-◌, ◌+◌}
+use mathlib.Core.Path.{◌∙◌}
 use native.Mathlib.Omega.{arith}
-use borrow.Author.Rules.{rules}
-use lib.ListN.{length}
-use Rattle.format.specs.Line.{decimal_text}
 use Rattle.format.proofs.Lengths.{length_more, length_one, length_some}
 use Rattle.line_writer.proofs.LineLaws.{length_64}
 use Rattle.line_writer.proofs.lines.decimal_length.Goals as goal

@@ -1,12 +1,8 @@
 -- `line_writer::lines::decimal_length`: what its loops keep, and why they end.
-use mathlib.Core.Path.{◌≡◌, ◌∙◌}
-use Prim.Native.Nat.{◌≤◌, ◌-◌, ◌+◌}
-use native.Mathlib.Omega.{arith}
-use borrow.Author.Rules.{rules}
+use mathlib.Core.Path.{◌≡◌}
+use Prim.Native.Nat.{◌≤◌, ◌+◌}
 use lib.ListN.{length}
 use Rattle.format.specs.Line.{decimal_text}
-use Rattle.format.proofs.Lengths.{length_more, length_one, length_some}
-use Rattle.line_writer.proofs.LineLaws.{length_64}
 use Rattle.line_writer.proofs.lines.decimal_length.Given as goal
 
 abbrev pub invariant-loop-w : goal.invariant-loop-w

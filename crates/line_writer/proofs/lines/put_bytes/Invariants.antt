@@ -1,12 +1,8 @@
 -- `line_writer::lines::put_bytes`: what its loops keep, and why they end.
-use mathlib.Core.Path.{◌≡◌, refl, sym, ◌∙◌}
+use mathlib.Core.Path.{◌≡◌}
 use Prim.Native.Nat.{◌≤◌, ◌-◌, ◌+◌}
-use native.Mathlib.Omega.{arith}
-use native.Mathlib.Nat.{add-zero}
-use borrow.Author.Rules.{rules}
-use lib.ListN.{length, drop, length-set}
+use lib.ListN.{length, drop}
 use lib.Seq.{sets}
-use Rattle.line_writer.proofs.LineLaws.{put_byte, put_no_byte}
 use Rattle.line_writer.proofs.lines.put_bytes.Given as goal
 
 abbrev pub invariant-loop-k : goal.invariant-loop-k

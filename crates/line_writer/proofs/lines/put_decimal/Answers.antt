@@ -1,11 +1,9 @@
 -- `line_writer::lines::put_decimal` meets its contract. Assumes nothing.
-use mathlib.Core.Path.{◌≡◌, refl, sym, ◌∙◌}
-use Prim.Native.Nat.{◌≤◌, ◌-◌}
+use mathlib.Core.Path.{refl, sym, ◌∙◌}
+use Prim.Native.Nat.{◌-◌}
 use native.Mathlib.Omega.{arith}
 use borrow.Author.Rules.{rules}
-use lib.ListN.{length, length-set}
-use lib.Seq.{sets}
-use Rattle.format.specs.Line.{decimal_text}
+use lib.ListN.{length-set}
 use Rattle.format.proofs.Lengths.{length_more, length_some}
 use Rattle.line_writer.proofs.LineLaws.{put_decimal_digit, put_first_digit}
 use Rattle.line_writer.proofs.lines.put_decimal.Goals as goal

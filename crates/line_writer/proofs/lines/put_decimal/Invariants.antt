@@ -1,13 +1,9 @@
 -- `line_writer::lines::put_decimal`: what its loops keep, and why they end.
-use mathlib.Core.Path.{◌≡◌, refl, sym, ◌∙◌}
-use Prim.Native.Nat.{◌≤◌, ◌-◌}
-use native.Mathlib.Omega.{arith}
-use borrow.Author.Rules.{rules}
-use lib.ListN.{length, length-set}
+use mathlib.Core.Path.{◌≡◌}
+use Prim.Native.Nat.{◌≤◌}
+use lib.ListN.{length}
 use lib.Seq.{sets}
 use Rattle.format.specs.Line.{decimal_text}
-use Rattle.format.proofs.Lengths.{length_more, length_some}
-use Rattle.line_writer.proofs.LineLaws.{put_decimal_digit, put_first_digit}
 use Rattle.line_writer.proofs.lines.put_decimal.Given as goal
 
 abbrev pub invariant-loop-w : goal.invariant-loop-w

@@ -1,11 +1,9 @@
 -- `line_writer::lines::put_hex` meets its contract. Assumes nothing.
-use mathlib.Core.Path.{◌≡◌, refl, sym, ◌∙◌}
-use Prim.Native.Nat.{◌≤◌, ◌-◌}
+use mathlib.Core.Path.{refl, sym, ◌∙◌}
+use Prim.Native.Nat.{◌-◌}
 use native.Mathlib.Omega.{arith}
 use borrow.Author.Rules.{rules}
-use lib.ListN.{length, length-set}
-use lib.Seq.{sets}
-use Rattle.hex_tables.specs.Tables.{hex_text_by}
+use lib.ListN.{length-set}
 use Rattle.line_writer.proofs.LineLaws.{put_hex_digit, put_no_hex}
 use Rattle.line_writer.proofs.lines.put_hex.Goals as goal
 

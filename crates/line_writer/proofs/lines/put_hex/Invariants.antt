@@ -1,12 +1,9 @@
 -- `line_writer::lines::put_hex`: what its loops keep, and why they end.
-use mathlib.Core.Path.{◌≡◌, refl, sym, ◌∙◌}
-use Prim.Native.Nat.{◌≤◌, ◌-◌}
-use native.Mathlib.Omega.{arith}
-use borrow.Author.Rules.{rules}
-use lib.ListN.{length, length-set}
+use mathlib.Core.Path.{◌≡◌}
+use Prim.Native.Nat.{◌≤◌}
+use lib.ListN.{length}
 use lib.Seq.{sets}
 use Rattle.hex_tables.specs.Tables.{hex_text_by}
-use Rattle.line_writer.proofs.LineLaws.{put_hex_digit, put_no_hex}
 use Rattle.line_writer.proofs.lines.put_hex.Given as goal
 
 abbrev pub invariant-loop-m : goal.invariant-loop-m

@@ -1,7 +1,6 @@
 -- `line_writer::lines::write_bytes` meets its contract. Assumes nothing.
 use mathlib.Core.Path.{sym, ◌∙◌}
 use native.Mathlib.Omega.{arith}
-use borrow.Author.Rules.{rules}
 use Rattle.line_writer.proofs.LineLaws.{text_refused, text_put}
 use Rattle.line_writer.proofs.lines.write_bytes.Goals as goal
 

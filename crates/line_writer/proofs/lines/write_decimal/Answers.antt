@@ -1,10 +1,7 @@
 -- `line_writer::lines::write_decimal` meets its contract. Assumes nothing.
-use mathlib.Core.Path.{◌∙◌}
 use native.Mathlib.Omega.{arith}
-use lib.ListN.{length-set}
 use Rattle.format.specs.Line.{decimal_text}
 use Rattle.line_writer.proofs.LineLaws.{keyed_refused, keyed_written}
-use borrow.Author.Rules.{rules}
 use Rattle.line_writer.proofs.lines.write_decimal.Goals as goal
 
 pub overflow_add-size : goal.overflow_add-size

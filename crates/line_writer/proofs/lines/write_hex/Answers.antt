@@ -1,11 +1,8 @@
 -- `line_writer::lines::write_hex` meets its contract. Assumes nothing.
-use mathlib.Core.Path.{◌∙◌}
 use native.Mathlib.Omega.{arith}
-use lib.ListN.{length-set}
 use Rattle.hex_tables.specs.Tables.{hex_text_by}
 use Rattle.hex_tables.proofs.Lengths.{length_hex_by}
 use Rattle.line_writer.proofs.LineLaws.{keyed_refused, keyed_written}
-use borrow.Author.Rules.{rules}
 use Rattle.line_writer.proofs.lines.write_hex.Goals as goal
 
 pub returns-then-len-size : goal.returns-then-len-size

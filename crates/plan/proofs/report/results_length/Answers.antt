@@ -1,10 +1,8 @@
 -- `plan::report::results_length` meets its contract. Assumes nothing.
-use mathlib.Core.Path.{◌≡◌, ap}
-use Prim.Native.Nat.{◌≤◌, ◌+◌, ◌-◌, ◌*◌}
+use mathlib.Core.Path.{ap}
 use native.Mathlib.Omega.{arith}
 use borrow.Author.Rules.{rules}
-use lib.ListN.{length, take, drop}
-use Rattle.plan.specs.Inside.{answers_text, first_answers}
+use lib.ListN.{length}
 use Rattle.plan.proofs.ReportLaws.{lines_length, lines_end}
 use Rattle.plan.proofs.report.results_length.Goals as goal
 

@@ -1,11 +1,8 @@
 -- `plan::report::results_length`: what its loops keep, and why they end.
-use mathlib.Core.Path.{◌≡◌, ap}
+use mathlib.Core.Path.{◌≡◌}
 use Prim.Native.Nat.{◌≤◌, ◌+◌, ◌-◌, ◌*◌}
-use native.Mathlib.Omega.{arith}
-use borrow.Author.Rules.{rules}
 use lib.ListN.{length, take, drop}
 use Rattle.plan.specs.Inside.{answers_text, first_answers}
-use Rattle.plan.proofs.ReportLaws.{lines_length, lines_end}
 use Rattle.plan.proofs.report.results_length.Given as goal
 
 abbrev pub invariant-loop-j : goal.invariant-loop-j

@@ -4,7 +4,6 @@ use native.Mathlib.Omega.{arith}
 use Rattle.format.specs.Sheet.{sheet_text}
 use Rattle.plan.specs.Inside.{first_answers}
 use Rattle.plan.proofs.ReportLaws.{report_done, report_no_room, sheet_put}
-use borrow.Author.Rules.{rules}
 use Rattle.plan.proofs.report.write_report.Goals as goal
 
 pub overflow_add-size : goal.overflow_add-size

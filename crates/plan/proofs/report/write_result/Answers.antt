@@ -1,7 +1,6 @@
 -- `plan::report::write_result` meets its contract. Assumes nothing.
 use Rattle.format.specs.Report.{result_kinds}
 use Rattle.line_writer.specs.Inside.{lines_put}
-use borrow.Author.Rules.{rules}
 use Rattle.plan.proofs.report.write_result.Goals as goal
 
 pub returns : goal.returns

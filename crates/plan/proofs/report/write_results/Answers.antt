@@ -1,15 +1,13 @@
 -- `plan::report::write_results` meets its contract. Assumes nothing.
-use mathlib.Core.Path.{◌≡◌, refl, sym, ap, ◌∙◌}
+use mathlib.Core.Path.{refl, sym, ap, ◌∙◌}
 use mathlib.Core.List.{[], ◌∷◌}
-use Prim.Native.Nat.{◌≤◌, ◌+◌, ◌-◌}
+use Prim.Native.Nat.{◌≤◌}
 use native.Mathlib.Omega.{arith}
 use borrow.Author.Rules.{rules}
-use lib.ListN.{length, take, drop, get_or, length-append}
-use lib.Seq.{sets}
+use lib.ListN.{length, get_or, length-append}
 use Rattle.format.specs.Line.{lines_text}
 use Rattle.format.specs.Report.{result_kinds}
 use Rattle.line_writer.specs.Inside.{Put}
-use Rattle.plan.specs.Inside.{answers_text, first_answers}
 use Rattle.plan.proofs.ReportLaws.{lines_step, lines_end, put_lines, result_put}
 use Rattle.plan.proofs.report.write_results.Goals as goal
 

@@ -1,16 +1,9 @@
 -- `plan::report::write_results`: what its loops keep, and why they end.
-use mathlib.Core.Path.{◌≡◌, refl, sym, ap, ◌∙◌}
-use mathlib.Core.List.{[], ◌∷◌}
+use mathlib.Core.Path.{◌≡◌}
 use Prim.Native.Nat.{◌≤◌, ◌+◌, ◌-◌}
-use native.Mathlib.Omega.{arith}
-use borrow.Author.Rules.{rules}
-use lib.ListN.{length, take, drop, get_or, length-append}
+use lib.ListN.{length, take, drop}
 use lib.Seq.{sets}
-use Rattle.format.specs.Line.{lines_text}
-use Rattle.format.specs.Report.{result_kinds}
-use Rattle.line_writer.specs.Inside.{Put}
 use Rattle.plan.specs.Inside.{answers_text, first_answers}
-use Rattle.plan.proofs.ReportLaws.{lines_step, lines_end, put_lines, result_put}
 use Rattle.plan.proofs.report.write_results.Given as goal
 
 abbrev pub invariant-loop-j : goal.invariant-loop-j

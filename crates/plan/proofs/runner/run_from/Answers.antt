@@ -4,7 +4,6 @@ use native.Mathlib.Omega.{arith}
 use Rattle.plan.specs.declared.runner.StepsRun.{StepsRun}
 use Rattle.plan.specs.Inside.{seen_steps}
 use Rattle.plan.proofs.ReportLaws.{steps_at_fault, plan_ran, last_valid}
-use borrow.Author.Rules.{rules}
 use Rattle.plan.proofs.runner.run_from.Goals as goal
 
 pub overflow_add-line : goal.overflow_add-line

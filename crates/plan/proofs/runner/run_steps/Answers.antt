@@ -1,14 +1,14 @@
 -- `plan::runner::run_steps` meets its contract. Assumes nothing.
-use mathlib.Core.Path.{◌≡◌, sym, ap, ◌∙◌}
-use Prim.Native.Nat.{◌≤◌, ◌<◌, ◌+◌, ◌-◌, suc}
+use mathlib.Core.Path.{sym, ap, ◌∙◌}
+use Prim.Native.Nat.{◌<◌, ◌+◌, ◌-◌, suc}
 use native.Mathlib.Omega.{arith}
 use native.Mathlib.Numerals.{add-one}
 use borrow.Author.Rules.{rules}
-use lib.ListN.{length, take, drop, length-set}
+use lib.ListN.{take, length-set}
 use lib.Seq.{take-suc-set}
 use Rattle.plan.specs.declared.step.StepRun.{StepRun}
-use Rattle.plan.specs.Inside.{ran_steps, seen_step}
-use Rattle.plan.proofs.RunLaws.{grown, grown_none, grown_all, grown_fault}
+use Rattle.plan.specs.Inside.{seen_step}
+use Rattle.plan.proofs.RunLaws.{grown_none, grown_all, grown_fault}
 use Rattle.plan.proofs.Steps.{steps_end, steps_full, steps_fault, steps_step}
 use Rattle.plan.proofs.runner.run_steps.Goals as goal
 

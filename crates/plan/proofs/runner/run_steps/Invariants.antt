@@ -1,15 +1,9 @@
 -- `plan::runner::run_steps`: what its loops keep, and why they end.
-use mathlib.Core.Path.{◌≡◌, sym, ap, ◌∙◌}
-use Prim.Native.Nat.{◌≤◌, ◌<◌, ◌+◌, ◌-◌, suc}
-use native.Mathlib.Omega.{arith}
-use native.Mathlib.Numerals.{add-one}
-use borrow.Author.Rules.{rules}
-use lib.ListN.{length, take, drop, length-set}
-use lib.Seq.{take-suc-set}
-use Rattle.plan.specs.declared.step.StepRun.{StepRun}
-use Rattle.plan.specs.Inside.{ran_steps, seen_step}
-use Rattle.plan.proofs.RunLaws.{grown, grown_none, grown_all, grown_fault}
-use Rattle.plan.proofs.Steps.{steps_end, steps_full, steps_fault, steps_step}
+use mathlib.Core.Path.{◌≡◌}
+use Prim.Native.Nat.{◌≤◌, ◌-◌}
+use lib.ListN.{length, take, drop}
+use Rattle.plan.specs.Inside.{ran_steps}
+use Rattle.plan.proofs.RunLaws.{grown}
 use Rattle.plan.proofs.runner.run_steps.Given as goal
 
 abbrev pub invariant-loop-at : goal.invariant-loop-at

@@ -1,7 +1,6 @@
 -- `plan::slot_report::slot_length` meets its contract. Assumes nothing.
 use native.Mathlib.Omega.{arith}
 use Rattle.plan.proofs.SlotLaws.{slot_length}
-use borrow.Author.Rules.{rules}
 use Rattle.plan.proofs.slot_report.slot_length.Goals as goal
 
 pub returns : goal.returns

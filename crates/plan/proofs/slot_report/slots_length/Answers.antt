@@ -1,12 +1,11 @@
 -- `plan::slot_report::slots_length` meets its contract. Assumes nothing.
-use mathlib.Core.Path.{◌≡◌, ap, ◌∙◌}
-use Prim.Native.Nat.{◌≤◌, ◌+◌, ◌-◌, ◌*◌}
+use mathlib.Core.Path.{ap, ◌∙◌}
+use Prim.Native.Nat.{◌+◌, ◌-◌}
 use native.Mathlib.Omega.{arith}
 use lib.ListN.{length, length-append}
-use Rattle.slot_format.specs.SlotReport.{slot_text, slots_text, table_text}
+use Rattle.slot_format.specs.SlotReport.{slot_text, slots_text}
 use Rattle.threads.specs.Table.{held}
 use Rattle.plan.proofs.SlotLaws.{slots_used, slots_free, slots_none}
-use borrow.Author.Rules.{rules}
 use Rattle.plan.proofs.slot_report.slots_length.Goals as goal
 
 pub loop-i-init : goal.loop-i-init

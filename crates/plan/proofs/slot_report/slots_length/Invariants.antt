@@ -1,12 +1,8 @@
 -- `plan::slot_report::slots_length`: what its loops keep, and why they end.
-use mathlib.Core.Path.{◌≡◌, ap, ◌∙◌}
+use mathlib.Core.Path.{◌≡◌}
 use Prim.Native.Nat.{◌≤◌, ◌+◌, ◌-◌, ◌*◌}
-use native.Mathlib.Omega.{arith}
-use lib.ListN.{length, length-append}
-use Rattle.slot_format.specs.SlotReport.{slot_text, slots_text, table_text}
-use Rattle.threads.specs.Table.{held}
-use Rattle.plan.proofs.SlotLaws.{slots_used, slots_free, slots_none}
-use borrow.Author.Rules.{rules}
+use lib.ListN.{length}
+use Rattle.slot_format.specs.SlotReport.{slots_text, table_text}
 use Rattle.plan.proofs.slot_report.slots_length.Given as goal
 
 abbrev pub invariant-loop-i : goal.invariant-loop-i

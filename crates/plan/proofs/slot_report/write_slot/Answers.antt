@@ -1,8 +1,6 @@
 -- `plan::slot_report::write_slot` meets its contract. Assumes nothing.
-use mathlib.Core.Path.{◌∙◌}
 use native.Mathlib.Omega.{arith}
 use Rattle.plan.proofs.SlotLaws.{slot_put}
-use borrow.Author.Rules.{rules}
 use Rattle.plan.proofs.slot_report.write_slot.Goals as goal
 
 pub overflow_add-result : goal.overflow_add-result

@@ -7,7 +7,6 @@ use Rattle.line_writer.proofs.LineLaws.{text_put}
 use Rattle.slot_format.specs.SlotReport.{table_text}
 use Rattle.plan.specs.Inside.{first_answers}
 use Rattle.plan.proofs.ReportLaws.{report_done, report_no_room}
-use borrow.Author.Rules.{rules}
 use Rattle.plan.proofs.slot_report.write_slot_report.Goals as goal
 
 pub returns-then-size-buf : goal.returns-then-size-buf

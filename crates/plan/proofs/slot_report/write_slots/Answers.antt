@@ -1,15 +1,13 @@
 -- `plan::slot_report::write_slots` meets its contract. Assumes nothing.
-use mathlib.Core.Path.{◌≡◌, refl, sym, ap, ◌∙◌}
-use mathlib.Core.List.{◌++◌}
-use Prim.Native.Nat.{◌≤◌, ◌+◌, ◌-◌}
+use mathlib.Core.Path.{refl, sym, ap, ◌∙◌}
+use Prim.Native.Nat.{◌+◌, ◌-◌}
 use native.Mathlib.Omega.{arith}
 use lib.ListN.{length, length-append}
 use lib.Seq.{sets}
-use Rattle.slot_format.specs.SlotReport.{slot_text, slots_text, table_text}
+use Rattle.slot_format.specs.SlotReport.{slot_text, slots_text}
 use Rattle.threads.specs.Table.{held}
 use Rattle.line_writer.proofs.LineLaws.{sets_append}
 use Rattle.plan.proofs.SlotLaws.{slots_used, slots_free, slots_none}
-use borrow.Author.Rules.{rules}
 use Rattle.plan.proofs.slot_report.write_slots.Goals as goal
 
 pub loop-i-init : goal.loop-i-init

@@ -1,15 +1,9 @@
 -- `plan::slot_report::write_slots`: what its loops keep, and why they end.
-use mathlib.Core.Path.{◌≡◌, refl, sym, ap, ◌∙◌}
-use mathlib.Core.List.{◌++◌}
+use mathlib.Core.Path.{◌≡◌}
 use Prim.Native.Nat.{◌≤◌, ◌+◌, ◌-◌}
-use native.Mathlib.Omega.{arith}
-use lib.ListN.{length, length-append}
+use lib.ListN.{length}
 use lib.Seq.{sets}
-use Rattle.slot_format.specs.SlotReport.{slot_text, slots_text, table_text}
-use Rattle.threads.specs.Table.{held}
-use Rattle.line_writer.proofs.LineLaws.{sets_append}
-use Rattle.plan.proofs.SlotLaws.{slots_used, slots_free, slots_none}
-use borrow.Author.Rules.{rules}
+use Rattle.slot_format.specs.SlotReport.{slots_text, table_text}
 use Rattle.plan.proofs.slot_report.write_slots.Given as goal
 
 abbrev pub invariant-loop-i : goal.invariant-loop-i

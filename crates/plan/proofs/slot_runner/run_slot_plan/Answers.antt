@@ -3,7 +3,6 @@ use mathlib.Core.Path.{refl, ◌∙◌}
 use Rattle.sheet_reader.proofs.Format.{front_is}
 use Rattle.sheet_reader.proofs.Whole.{front_told, front_told_invalid, front_fault}
 use Rattle.plan.proofs.SlotReportLaws.{front_at_fault}
-use borrow.Author.Rules.{rules}
 use Rattle.plan.proofs.slot_runner.run_slot_plan.Goals as goal
 
 pub run_slots_from-requires : goal.run_slots_from-requires

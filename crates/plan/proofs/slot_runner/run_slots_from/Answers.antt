@@ -1,8 +1,6 @@
 -- `plan::slot_runner::run_slots_from` meets its contract. Assumes nothing.
 use mathlib.Core.Path.{refl, ◌∙◌}
-use native.Mathlib.Omega.{arith}
 use Rattle.plan.proofs.SlotReportLaws.{ran_at_fault, ran_to_the_end, steps_at_fault, plan_ran, last_valid}
-use borrow.Author.Rules.{rules}
 use Rattle.plan.proofs.slot_runner.run_slots_from.Goals as goal
 
 pub returns-then-ran : goal.returns-then-ran

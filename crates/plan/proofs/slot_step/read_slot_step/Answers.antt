@@ -1,6 +1,5 @@
 -- `plan::slot_step::read_slot_step` meets its contract. Assumes nothing.
 use Rattle.plan.proofs.StepLaws.{slot_step_seen}
-use borrow.Author.Rules.{rules}
 use Rattle.plan.proofs.slot_step.read_slot_step.Goals as goal
 
 pub returns : goal.returns

@@ -1,7 +1,6 @@
 -- `plan::slot_step::turn_of` meets its contract. Assumes nothing.
 use mathlib.Core.Path.{◌∙◌}
 use native.Mathlib.Nat.{sub-zero}
-use borrow.Author.Rules.{rules}
 use Rattle.plan.proofs.slot_step.turn_of.Goals as goal
 
 pub returns : goal.returns

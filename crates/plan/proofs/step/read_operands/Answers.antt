@@ -1,7 +1,6 @@
 -- `plan::step::read_operands` meets its contract. Assumes nothing.
 use Rattle.format.specs.Step.{step_kinds}
 use Rattle.line_reader.specs.Positions.{lines_at}
-use borrow.Author.Rules.{rules}
 use Rattle.plan.proofs.step.read_operands.Goals as goal
 
 pub returns : goal.returns

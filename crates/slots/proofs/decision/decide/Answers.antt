@@ -1,7 +1,6 @@
 -- `slots::decision::decide` meets its contract. Assumes nothing.
 use Rattle.threads.specs.Step.{decided}
 use borrow.Author.Tests.{eq-eqb, ne_eqb}
-use borrow.Author.Rules.{rules}
 use Rattle.slots.proofs.decision.decide.Goals as goal
 
 pub returns-then-number-eq-FORK : goal.returns-then-number-eq-FORK

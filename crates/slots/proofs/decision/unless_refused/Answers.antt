@@ -1,6 +1,5 @@
 -- `slots::decision::unless_refused` meets its contract. Assumes nothing.
 use Rattle.threads.specs.Step.{unless_refused}
-use borrow.Author.Rules.{rules}
 use Rattle.slots.proofs.decision.unless_refused.Goals as goal
 
 pub returns-then-uses_none : goal.returns-then-uses_none

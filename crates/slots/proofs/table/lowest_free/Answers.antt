@@ -1,11 +1,6 @@
 -- `slots::table::lowest_free` meets its contract. Assumes nothing.
-use Prim.Native.Nat.{◌≤◌, ◌+◌, ◌-◌}
-use mathlib.Core.Path.{◌≡◌}
 use native.Mathlib.Omega.{arith}
 use native.Mathlib.Numerals.{add-one}
-use lib.ListN.{length, drop}
-use borrow.Author.Rules.{rules}
-use Rattle.threads.specs.Table.{lowest_free}
 use Rattle.slots.proofs.Free.{free_past, free_here, free_none}
 use Rattle.slots.proofs.table.lowest_free.Goals as goal
 

@@ -1,6 +1,5 @@
 -- `slots::turn::carry_out` meets its contract. Assumes nothing.
 use Rattle.slots.specs.Turn.{turn_by}
-use borrow.Author.Rules.{rules}
 use Rattle.slots.proofs.turn.carry_out.Goals as goal
 
 pub returns-in-Answered : goal.returns-in-Answered

@@ -1,7 +1,6 @@
 -- `slots::turn::fork` meets its contract. Assumes nothing.
 use Rattle.slots.specs.Turn.{turn_by}
 use borrow.Author.Tests.{le-ltb, lt-ltb}
-use borrow.Author.Rules.{rules}
 use Rattle.slots.proofs.turn.fork.Goals as goal
 
 pub returns-then-free-lt-SLOTS : goal.returns-then-free-lt-SLOTS

@@ -1,12 +1,11 @@
 -- `slots::turn::step` meets its contract. Assumes nothing.
 use Prim.Native.Nat.{ℕ, ◌<◌}
-use mathlib.Core.Path.{◌≡◌, sym, ap, ◌∙◌, subst}
+use mathlib.Core.Path.{sym, ap, ◌∙◌, subst}
 use native.Mathlib.Omega.{arith}
 use Rattle.threads.specs.Table.{held}
 use Rattle.slots.specs.declared.turn.Turn.{Turn}
 use Rattle.slots.specs.Turn.{step_of, turn_of, stored}
 use Rattle.slots.proofs.Turns.{turns_stored}
-use borrow.Author.Rules.{rules}
 use Rattle.slots.proofs.turn.step.Goals as goal
 
 -- the slot that the turn is stored in is one of the 96

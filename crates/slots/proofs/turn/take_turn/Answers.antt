@@ -1,7 +1,6 @@
 -- `slots::turn::take_turn` meets its contract. Assumes nothing.
 use Rattle.slots.specs.Turn.{turn_of}
 use borrow.Author.Tests.{le-ltb, lt-ltb}
-use borrow.Author.Rules.{rules}
 use Rattle.slots.proofs.turn.take_turn.Goals as goal
 
 pub returns-then-slot : goal.returns-then-slot

@@ -1,10 +1,7 @@
 -- `status_reader::lines::find` meets its contract. Assumes nothing.
-use mathlib.Core.Path.{◌≡◌, refl}
-use Prim.Native.Nat.{◌≤◌, ◌-◌, ◌+◌}
+use mathlib.Core.Path.{refl}
 use native.Mathlib.Omega.{arith}
 use borrow.Author.Rules.{rules}
-use lib.ListN.{length, drop}
-use Rattle.status.specs.Reading.{up_to}
 use Rattle.status_reader.proofs.LineLaws.{found_here, found_further, found_nowhere}
 use Rattle.status_reader.proofs.lines.find.Goals as goal
 

@@ -1,11 +1,8 @@
 -- `status_reader::lines::find`: what its loops keep, and why they end.
-use mathlib.Core.Path.{◌≡◌, refl}
+use mathlib.Core.Path.{◌≡◌}
 use Prim.Native.Nat.{◌≤◌, ◌-◌, ◌+◌}
-use native.Mathlib.Omega.{arith}
-use borrow.Author.Rules.{rules}
 use lib.ListN.{length, drop}
 use Rattle.status.specs.Reading.{up_to}
-use Rattle.status_reader.proofs.LineLaws.{found_here, found_further, found_nowhere}
 use Rattle.status_reader.proofs.lines.find.Given as goal
 
 abbrev pub invariant-loop-i : goal.invariant-loop-i

@@ -1,7 +1,6 @@
 -- `status_reader::lines::flag_line` meets its contract. Assumes nothing.
 use mathlib.Core.Path.{ap, ◌∙◌}
 use mathlib.Core.List.{[]}
-use borrow.Author.Rules.{rules}
 use lib.ListN.{drop}
 use Rattle.status.specs.Lines.{flag_form}
 use Rattle.status.specs.Reading.{value_of}

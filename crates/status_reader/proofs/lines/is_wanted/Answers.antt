@@ -1,7 +1,6 @@
 -- `status_reader::lines::is_wanted` meets its contract. Assumes nothing.
 use mathlib.Core.Path.{sym}
 use native.Mathlib.Omega.{arith}
-use borrow.Author.Rules.{rules}
 use Rattle.status_reader.proofs.LineLaws.{empty_line, wanted_set, wanted_ids, wanted_flag, wanted_other}
 use Rattle.status_reader.proofs.lines.is_wanted.Goals as goal
 

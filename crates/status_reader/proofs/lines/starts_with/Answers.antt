@@ -1,11 +1,9 @@
 -- `status_reader::lines::starts_with` meets its contract. Assumes nothing.
-use mathlib.Core.Path.{◌≡◌, refl, sym}
-use Prim.Native.Nat.{◌≤◌, ◌-◌, ◌+◌}
+use mathlib.Core.Path.{refl, sym}
+use Prim.Native.Nat.{◌+◌}
 use native.Mathlib.Omega.{arith}
 use borrow.Author.Rules.{rules}
 use borrow.Author.Tests.{eq-eqb, ne_eqb}
-use lib.ListN.{drop}
-use Rattle.format.specs.Line.{starts_with}
 use Rattle.format.proofs.Keys.{starts_step, starts_end}
 use Rattle.status_reader.proofs.LineLaws.{too_short}
 use Rattle.status_reader.proofs.lines.starts_with.Goals as goal

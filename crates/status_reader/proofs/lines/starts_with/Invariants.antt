@@ -1,13 +1,8 @@
 -- `status_reader::lines::starts_with`: what its loops keep, and why they end.
-use mathlib.Core.Path.{◌≡◌, refl, sym}
-use Prim.Native.Nat.{◌≤◌, ◌-◌, ◌+◌}
-use native.Mathlib.Omega.{arith}
-use borrow.Author.Rules.{rules}
-use borrow.Author.Tests.{eq-eqb, ne_eqb}
+use mathlib.Core.Path.{◌≡◌}
+use Prim.Native.Nat.{◌≤◌, ◌-◌}
 use lib.ListN.{drop}
 use Rattle.format.specs.Line.{starts_with}
-use Rattle.format.proofs.Keys.{starts_step, starts_end}
-use Rattle.status_reader.proofs.LineLaws.{too_short}
 use Rattle.status_reader.proofs.lines.starts_with.Given as goal
 
 abbrev pub invariant-loop-k : goal.invariant-loop-k

@@ -1,7 +1,6 @@
 -- `status_reader::lines::values_of` meets its contract. Assumes nothing.
 use mathlib.Core.Path.{sym, ◌∙◌}
 use native.Mathlib.Omega.{arith}
-use borrow.Author.Rules.{rules}
 use Rattle.status_reader.proofs.LineLaws.{name_missing, name_alone, name_tab, name_other}
 use Rattle.status_reader.proofs.lines.values_of.Goals as goal
 

@@ -1,7 +1,6 @@
 -- `status_reader::places::due_line` meets its contract. Assumes nothing.
 use mathlib.Core.Path.{sym, ap, ◌∙◌}
 use mathlib.Core.List.{◌∷◌}
-use borrow.Author.Rules.{rules}
 use Rattle.format.specs.Line.{fault_at}
 use Rattle.status_reader.specs.declared.places.Place.{Place}
 use Rattle.status_reader.proofs.PlaceLaws.{found_line, not_come, after_fault, no_fault}

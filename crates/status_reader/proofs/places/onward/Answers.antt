@@ -1,5 +1,4 @@
 -- `status_reader::places::onward` meets its contract. Assumes nothing.
-use borrow.Author.Rules.{rules}
 use Rattle.status_reader.proofs.places.onward.Goals as goal
 
 pub returns-in-Fault : goal.returns-in-Fault

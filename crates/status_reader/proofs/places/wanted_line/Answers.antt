@@ -1,11 +1,7 @@
 -- `status_reader::places::wanted_line` meets its contract. Assumes nothing.
-use mathlib.Core.Path.{◌≡◌, refl, sym, ◌∙◌}
-use mathlib.Core.List.{List}
-use Prim.Native.Nat.{◌≤◌, ◌-◌, ◌+◌}
+use mathlib.Core.Path.{refl, sym, ◌∙◌}
 use native.Mathlib.Omega.{arith}
 use borrow.Author.Rules.{rules}
-use Rattle.status.specs.Lines.{Entry}
-use Rattle.status_reader.specs.Inside.{from}
 use Rattle.status_reader.proofs.PlaceLaws.{passed_over, found_ahead, end_found}
 use Rattle.status_reader.proofs.places.wanted_line.Goals as goal
 

@@ -1,12 +1,9 @@
 -- `status_reader::places::wanted_line`: what its loops keep, and why they end.
-use mathlib.Core.Path.{◌≡◌, refl, sym, ◌∙◌}
+use mathlib.Core.Path.{◌≡◌}
 use mathlib.Core.List.{List}
 use Prim.Native.Nat.{◌≤◌, ◌-◌, ◌+◌}
-use native.Mathlib.Omega.{arith}
-use borrow.Author.Rules.{rules}
 use Rattle.status.specs.Lines.{Entry}
 use Rattle.status_reader.specs.Inside.{from}
-use Rattle.status_reader.proofs.PlaceLaws.{passed_over, found_ahead, end_found}
 use Rattle.status_reader.proofs.places.wanted_line.Given as goal
 
 abbrev pub invariant-loop-i : goal.invariant-loop-i

@@ -1,12 +1,8 @@
 -- `status_reader::values::decimal_value` meets its contract. Assumes nothing.
-use mathlib.Core.Path.{◌≡◌, sym}
-use Prim.Native.Nat.{◌≤◌, ◌-◌}
+use mathlib.Core.Path.{sym}
 use native.Mathlib.Omega.{arith}
 use borrow.Author.Rules.{rules}
-use lib.ListN.{drop}
-use Rattle.format.specs.Line.{decimal}
-use Rattle.status.specs.Reading.{value_of}
-use Rattle.status_reader.proofs.ValueLaws.{decimal_left, no_digits, first_good, first_none, first_above, further_good, further_above, further_zero, further_none, decimal_end}
+use Rattle.status_reader.proofs.ValueLaws.{no_digits, first_good, first_none, first_above, further_good, further_above, further_zero, further_none, decimal_end}
 use Rattle.status_reader.proofs.values.decimal_value.Goals as goal
 
 pub returns-then-n-eq0 : goal.returns-then-n-eq0

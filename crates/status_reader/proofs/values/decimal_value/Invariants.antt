@@ -1,12 +1,10 @@
 -- `status_reader::values::decimal_value`: what its loops keep, and why they end.
-use mathlib.Core.Path.{◌≡◌, sym}
+use mathlib.Core.Path.{◌≡◌}
 use Prim.Native.Nat.{◌≤◌, ◌-◌}
-use native.Mathlib.Omega.{arith}
-use borrow.Author.Rules.{rules}
 use lib.ListN.{drop}
 use Rattle.format.specs.Line.{decimal}
 use Rattle.status.specs.Reading.{value_of}
-use Rattle.status_reader.proofs.ValueLaws.{decimal_left, no_digits, first_good, first_none, first_above, further_good, further_above, further_zero, further_none, decimal_end}
+use Rattle.status_reader.proofs.ValueLaws.{decimal_left}
 use Rattle.status_reader.proofs.values.decimal_value.Given as goal
 
 abbrev pub invariant-loop-k : goal.invariant-loop-k

@@ -1,6 +1,5 @@
 -- `status_reader::values::digit` meets its contract. Assumes nothing.
 use mathlib.Core.Path.{◌∙◌}
-use borrow.Author.Rules.{rules}
 use borrow.Author.Tests.{lt-ltb}
 use Rattle.hex_tables.proofs.Format.{by_the_tables}
 use Rattle.status_reader.proofs.values.digit.Goals as goal

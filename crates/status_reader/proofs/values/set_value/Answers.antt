@@ -1,14 +1,11 @@
 -- `status_reader::values::set_value` meets its contract. Assumes nothing.
-use mathlib.Core.Path.{◌≡◌, sym, ◌∙◌}
-use Prim.Native.Nat.{◌≤◌, ◌<◌, ◌-◌, ◌+◌, ◌^◌}
+use mathlib.Core.Path.{sym, ◌∙◌}
+use Prim.Native.Nat.{◌-◌, ◌+◌}
 use native.Mathlib.Omega.{arith}
 use borrow.Author.Rules.{rules}
 use borrow.Author.Tests.{le-ltb, lt-ltb}
-use lib.ListN.{drop}
 use Rattle.format.proofs.Digits.{hex_room, hex_grows}
-use Rattle.status.specs.Lines.{set_form}
-use Rattle.status.specs.Reading.{value_of}
-use Rattle.status_reader.proofs.ValueLaws.{hex_left, set_start, hex_step, hex_end, hex_length}
+use Rattle.status_reader.proofs.ValueLaws.{set_start, hex_step, hex_end, hex_length}
 use Rattle.status_reader.proofs.values.set_value.Goals as goal
 
 pub returns-then-part-ne-SET_DIGITS : goal.returns-then-part-ne-SET_DIGITS

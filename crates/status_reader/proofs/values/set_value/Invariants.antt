@@ -1,14 +1,10 @@
 -- `status_reader::values::set_value`: what its loops keep, and why they end.
-use mathlib.Core.Path.{◌≡◌, sym, ◌∙◌}
-use Prim.Native.Nat.{◌≤◌, ◌<◌, ◌-◌, ◌+◌, ◌^◌}
-use native.Mathlib.Omega.{arith}
-use borrow.Author.Rules.{rules}
-use borrow.Author.Tests.{le-ltb, lt-ltb}
+use mathlib.Core.Path.{◌≡◌}
+use Prim.Native.Nat.{◌≤◌, ◌<◌, ◌-◌, ◌^◌}
 use lib.ListN.{drop}
-use Rattle.format.proofs.Digits.{hex_room, hex_grows}
 use Rattle.status.specs.Lines.{set_form}
 use Rattle.status.specs.Reading.{value_of}
-use Rattle.status_reader.proofs.ValueLaws.{hex_left, set_start, hex_step, hex_end, hex_length}
+use Rattle.status_reader.proofs.ValueLaws.{hex_left}
 use Rattle.status_reader.proofs.values.set_value.Given as goal
 
 abbrev pub invariant-loop-k : goal.invariant-loop-k
