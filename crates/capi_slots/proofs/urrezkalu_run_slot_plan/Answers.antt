@@ -1,6 +1,5 @@
 -- `capi_slots::urrezkalu_run_slot_plan` meets its contract. Assumes nothing.
 use mathlib.Core.Path.{refl}
-use borrow.Author.Rules.{rules}
 use Rattle.capi_slots.proofs.urrezkalu_run_slot_plan.Goals as goal
 
 pub returns : goal.returns
