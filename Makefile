@@ -19,7 +19,7 @@ CARGO_RUN := cargo run --quiet --offline --release --manifest-path host/Cargo.to
 test:
 	@log=$$(mktemp); trap 'rm -f "$$log"' EXIT; \
 	rt ci 2>&1 | tee "$$log" | sed -u '$$d' || { tail -n 1 "$$log"; exit 1; }; \
-	if grep -Eq '^rt: ok.*, [0-9]+ bad' "$$log"; then tail -n 1 "$$log"; exit 1; fi; \
+	if grep -Eq '^rt: ok.*, [0-9]+ bad' "$$log"; then echo 'make test: FAILED: must-fail edits that cannot be applied or read'; exit 1; fi; \
 	host/tests/run; \
 	tail -n 1 "$$log"
 
