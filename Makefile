@@ -13,7 +13,7 @@ PROGRAM = $(if $(findstring slots/,$(PLAN)),urrezkalu_slots,urrezkalu)
 
 CARGO_RUN := cargo run --quiet --offline --release --manifest-path host/Cargo.toml
 
-# The gate: the layout, every proof from nothing, every must-fail edit, every program's output; then the tests that are not Rattle.
+# The gate: the layout, every proof, every must-fail edit, every program's output; then the tests that are not Rattle.
 # rt passes must-fail edits that cannot be applied, and only counts them as bad: here they fail. rt's own verdict, `N passed, M failed`, is held back until
 # all have passed, and is the last line.
 test:
