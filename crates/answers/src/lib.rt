@@ -4,22 +4,19 @@
 #![tactic(auto)]
 
 ghost use Rattle.std.specs.Prelude.{◌≡◌};
-ghost use Rattle.rules.specs.Answers.{after, cause, cause_number, code, value};
+ghost use Rattle.rules.specs.Answers.{after, cause, code, value};
 
-use codes::{DONE, INVALID_ARGUMENT, INVALID_CREDENTIALS, NOT_PERMITTED, UNREADABLE_ATTRIBUTE};
+use codes::DONE;
 use credentials::Credentials;
-use rules::{Answer, Cause};
+use rules::{Answer, Refusal};
 
-// The code: 0 where the call is done, and else the refusal's.
+// The code: 0 where the call is done, and else the refusal's. (A function of its own, for its own refusals and definition, as sheet_reader's `sheet_code` says.)
 pub fn code(answer: Answer) -> u8
     ensures { result ≡ code answer }
 {
     match answer {
-        Answer::Done { .. } => DONE,
-        Answer::NotPermitted(_) => NOT_PERMITTED,
-        Answer::InvalidArgument => INVALID_ARGUMENT,
-        Answer::UnreadableAttribute => UNREADABLE_ATTRIBUTE,
-        Answer::InvalidCredentials => INVALID_CREDENTIALS,
+        Ok(_) => DONE,
+        Err(refusal) => u8::from(refusal),
     }
 }
 
@@ -28,11 +25,8 @@ pub fn value(answer: Answer) -> u64
     ensures { result ≡ value answer }
 {
     match answer {
-        Answer::Done { value, .. } => value,
-        Answer::NotPermitted(_) => 0,
-        Answer::InvalidArgument => 0,
-        Answer::UnreadableAttribute => 0,
-        Answer::InvalidCredentials => 0,
+        Ok(done) => done.value,
+        Err(_) => 0,
     }
 }
 
@@ -41,30 +35,8 @@ pub fn cause(answer: Answer) -> u8
     ensures { result ≡ cause answer }
 {
     match answer {
-        Answer::Done { .. } => 0,
-        Answer::NotPermitted(why) => cause_number(why),
-        Answer::InvalidArgument => 0,
-        Answer::UnreadableAttribute => 0,
-        Answer::InvalidCredentials => 0,
-    }
-}
-
-// The number of a cause.
-fn cause_number(why: Cause) -> u8
-    ensures { result ≡ cause_number why }
-{
-    match why {
-        Cause::CapabilityNotEffective => 1,
-        Cause::InheritableBeyondPermitted => 2,
-        Cause::InheritableBeyondBounding => 3,
-        Cause::PermittedGrows => 4,
-        Cause::EffectiveBeyondPermitted => 5,
-        Cause::NotInPermittedAndInheritable => 6,
-        Cause::AmbientRaiseForbidden => 7,
-        Cause::LockUndone => 8,
-        Cause::LockedFlagChanged => 9,
-        Cause::IdNotAllowed => 10,
-        Cause::LaunchFallsShort => 11,
+        Err(Refusal::NotPermitted(why)) => u8::from(why),
+        _ => 0,
     }
 }
 
@@ -73,10 +45,7 @@ pub fn after(start: Credentials, answer: Answer) -> Credentials
     ensures { result ≡ after start answer }
 {
     match answer {
-        Answer::Done { after, .. } => after,
-        Answer::NotPermitted(_) => start,
-        Answer::InvalidArgument => start,
-        Answer::UnreadableAttribute => start,
-        Answer::InvalidCredentials => start,
+        Ok(done) => done.after,
+        Err(_) => start,
     }
 }

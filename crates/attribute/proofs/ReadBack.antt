@@ -11,8 +11,8 @@ use Rattle.capabilities.proofs.Inclusion.{not_outside, union_sub_l, union_sub_r,
 use Rattle.attribute.specs.Words.{Bytes, word_at, word_bytes, set_of}
 use Rattle.attribute.specs.Reader.{bits_above40, file_of, length_of, reading, unreadable, version2}
 use Rattle.attribute.specs.Writer.{first_word, version2_bytes, written, buffer_after}
-use Rattle.attribute.specs.declared.Reading.TheVariants.{File}
-use Rattle.attribute.proofs.Outcomes.{done_facts, done_buffer}
+use Rattle.std.specs.Prelude.{Ok, IsOk}
+use Rattle.attribute.proofs.Outcomes.{is_done, done_facts, done_buffer}
 use Rattle.attribute.proofs.Words.{append_bytes, word_bytes_lem, word_of_bytes}
 
 -- ---- the first word
@@ -75,7 +75,7 @@ module _ (p i : ℕ) (e : Bool) where
   written_length = refl
 
   -- the written form itself reads back
-  pub read_back : bits_above40 p i ≡ false → reading (version2_bytes p i e) ≡ File (record { attached = true; permitted = p; inheritable = i; effective = e })
+  pub read_back : bits_above40 p i ≡ false → reading (version2_bytes p i e) ≡ Ok (record { attached = true; permitted = p; inheritable = i; effective = e })
   unfolding reading unreadable file_of version2 length_of
   read_back h =
       let k : Within (union p i) full = not_outside (union p i) full h in
@@ -92,8 +92,9 @@ module _ (p i : ℕ) (e : Bool) where
   unfolding version2_bytes word_bytes
   first_twenty t = refl
 
-pub back : (p i : ℕ) (e : Bool) (old : List ℕ) → (written p i (length old)).code ≡ 0
-    → reading (take 20 (buffer_after p i e old)) ≡ File (record { attached = true; permitted = p; inheritable = i; effective = e })
+pub back : (p i : ℕ) (e : Bool) (old : List ℕ) → IsOk (written p i (length old))
+    → reading (take 20 (buffer_after p i e old)) ≡ Ok (record { attached = true; permitted = p; inheritable = i; effective = e })
 back p i e old h =
-    ap (λ (t : List ℕ). reading (take 20 t)) (done_buffer p i e old h) ∙ ap reading (first_twenty p i e (drop 20 old))
-    ∙ read_back p i e (done_facts p i (length old) h).0
+    let k = done_facts p i (length old) h in
+    ap (λ (t : List ℕ). reading (take 20 t)) (done_buffer p i e old (is_done p i (length old) k.0 k.1)) ∙ ap reading (first_twenty p i e (drop 20 old))
+    ∙ read_back p i e k.0

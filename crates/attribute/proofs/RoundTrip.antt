@@ -11,23 +11,21 @@ use borrow.Author.Tests.{eqb-true, eqb-false, not-false}
 use Rattle.capabilities.proofs.Inclusion.{or_false_l, or_false_r}
 use Rattle.attribute.specs.Words.{Bytes, byte_at, word_at, word_bytes, set_of}
 use Rattle.attribute.specs.Reader.{bits_above40, file_of, length_of, length_of_another_revision, other_bits, other_length, other_revision, reading, revision, unreadable, version1, version2}
-use Rattle.attribute.specs.Writer.{done, first_word, version2_bytes, written}
+use Rattle.attribute.specs.Writer.{first_word, version2_bytes, written}
 use Rattle.attribute.specs.RoundTrip.{as_version2, WritesAs, RoundTrip}
 use Rattle.attribute.specs.declared.FileCapabilities.{FileCapabilities}
-use Rattle.attribute.specs.declared.Reading.{Reading}
-use Rattle.attribute.specs.declared.Written.{Written}
-use Rattle.attribute.specs.declared.Reading.TheVariants.{File, Unreadable}
+use Rattle.attribute.specs.declared.ReadError.{ReadError}
+use Rattle.attribute.specs.declared.ReadError.TheVariants.{Unreadable}
+use Rattle.std.specs.Prelude.{Result, Ok, Err}
+use Rattle.std.specs.Result.{is_err}
 use Rattle.attribute.proofs.Outcomes.{is_done, done_buffer}
 use Rattle.attribute.proofs.ReadBack.{back}
 use Rattle.attribute.proofs.Words.{word_again, word_lt}
 
 -- ---- what a readable attribute holds
 
-not_file : {A : Type 0} {f : FileCapabilities} → Unreadable ≡ File f → A
-not_file h = let z : ◌≡◌ {A = ℕ} 0 1 = cc in absurd (eqb-false 0 1 refl z)
-
-inside : (t : Bool) {x : Reading} {f : FileCapabilities} → cond t Unreadable x ≡ File f → (t ≡ false) × (x ≡ File f)
-inside true h = not_file h
+inside : (t : Bool) {x : Result FileCapabilities ReadError} {f : FileCapabilities} → cond t (Err Unreadable) x ≡ Ok f → (t ≡ false) × (x ≡ Ok f)
+inside true h = absurd (true≢false (ap is_err h))
 inside false h = (refl, h)
 
 record Held (s : List ℕ) (f : FileCapabilities) : Type 0 where
@@ -37,10 +35,10 @@ record Held (s : List ℕ) (f : FileCapabilities) : Type 0 where
   range : bits_above40 f.permitted f.inheritable ≡ false
   is : file_of s ≡ f
 
-held : (s : List ℕ) (f : FileCapabilities) → eqb (length s) 0 ≡ false → reading s ≡ File f → Held s f
+held : (s : List ℕ) (f : FileCapabilities) → eqb (length s) 0 ≡ false → reading s ≡ Ok f → Held s f
 unfolding reading unreadable
 held s f some h =
-    let read : cond (unreadable s) Unreadable (File (file_of s)) ≡ File f = simp some at h in
+    let read : cond (unreadable s) (Err Unreadable) (Ok (file_of s)) ≡ Ok f = simp some at h in
     let k = inside (unreadable s) read in
     let same : file_of s ≡ f = cc k.1 in
     let up_to3 = or_false_l (other_length s || other_revision s || length_of_another_revision s || other_bits s) (bits_above40 (file_of s).permitted (file_of s).inheritable) k.0 in
@@ -87,12 +85,12 @@ first_again x false l h = let k : x ≡ 0 = bit_off x l h in omega arith
 writes_as : (f : FileCapabilities) {s : List ℕ} → bits_above40 f.permitted f.inheritable ≡ false
     → version2_bytes f.permitted f.inheritable f.effective ≡ s → WritesAs f s
 writes_as f h e =
-    let answer : (old : List ℕ) → 20 ≤ length old → written f.permitted f.inheritable (length old) ≡ done =
+    let answer : (old : List ℕ) → 20 ≤ length old → written f.permitted f.inheritable (length old) ≡ Ok 20 =
     λ old k. is_done f.permitted f.inheritable (length old) h k in
     record {
       answers = answer;
       leaves = λ old k.
-          done_buffer f.permitted f.inheritable f.effective old (ap (λ (w : Written). w.code) (answer old k))
+          done_buffer f.permitted f.inheritable f.effective old (answer old k)
           ∙ ap (λ (t : List ℕ). t ++ drop 20 old) e;
     }
 
@@ -130,7 +128,7 @@ version2_again s b h v o =
     )
     (five_again s b h)
 
-again : (s : List ℕ) (f : FileCapabilities) → Bytes s → length s ≡ 20 → reading s ≡ File f → WritesAs f s
+again : (s : List ℕ) (f : FileCapabilities) → Bytes s → length s ≡ 20 → reading s ≡ Ok f → WritesAs f s
 unfolding file_of length_of
 again s f b h r =
     let k : Held s f = held s f (ap (λ (n : ℕ). eqb n 0) h) r in
@@ -191,7 +189,7 @@ version1_raised s b h v o =
     )
     (rw (two_words s h, append_assoc (drop 4 s) (replicate 4 0) (replicate 4 0)))
 
-raised : (s : List ℕ) (f : FileCapabilities) → Bytes s → length s ≡ 12 → reading s ≡ File f → WritesAs f (as_version2 s)
+raised : (s : List ℕ) (f : FileCapabilities) → Bytes s → length s ≡ 12 → reading s ≡ Ok f → WritesAs f (as_version2 s)
 unfolding file_of length_of
 raised s f b h r =
     let k : Held s f = held s f (ap (λ (n : ℕ). eqb n 0) h) r in

@@ -1,19 +1,28 @@
 -- What the writer's stores come to. Assumes nothing.
-use Prim.Native.Nat.{ℕ, suc, ◌+◌, ◌≤◌}
-use mathlib.Core.Path.{◌≡◌, ap, ◌∙◌}
+use Prim.Native.Nat.{ℕ, ◌+◌, ◌-◌, ◌≤◌}
+use mathlib.Core.Path.{◌≡◌, refl, sym, ap, ◌∙◌}
 use mathlib.Core.Bool.{Bool}
-use mathlib.Core.List.{List, [], ◌∷◌, ◌++◌}
+use mathlib.Core.List.{List, ◌++◌, append_assoc}
 use native.Mathlib.Omega.{arith}
-use lib.ListN.{length, drop, set}
+use lib.ListN.{length, take, drop}
 use lib.Seq.{sets, sets-eq}
+use borrow.Rule.Slice.PartMut.{put_mid}
+use Rattle.std.specs.Int.{to_le_bytes, w32}
+use Rattle.std.proofs.lemmas.Slice.{put_mid-paste}
+use Rattle.std.proofs.lemmas.List.Edits.{paste_all}
 use Rattle.attribute.specs.Words.{word_bytes}
 use Rattle.attribute.specs.Writer.{version2_bytes}
 
--- four stores, one place after the other
-pub four_stores : (l : List ℕ) (at a b c d : ℕ) → set (set (set (set l at a) (at + 1) b) (at + 2) c) (at + 3) d ≡ sets l at (a ∷ b ∷ c ∷ d ∷ [])
-four_stores l at a b c d =
-    let p : at + 1 ≡ suc at = omega arith in
-    let q : at + 2 ≡ suc (suc at) = omega arith in let r : at + 3 ≡ suc (suc (suc at)) = omega arith in rw (p, q, r)
+-- a part of a list written over is that list with the part's elements set
+pub part_set : (l vs : List ℕ) (at n : ℕ) → n ≡ length vs → at + n ≤ length l → put_mid at (at + n - at) l vs ≡ sets l at vs
+part_set l vs at n e h =
+    put_mid-paste at (at + n - at) l vs vs n refl (omega arith) e ∙ paste_all l at vs n e
+    ∙ ap (λ (m : ℕ). take at l ++ (vs ++ drop (at + m) l)) e ∙ sym (append_assoc (take at l) vs (drop (at + length vs) l)) ∙ sym (sets-eq vs l at (omega arith))
+
+-- the bytes of a word are those that the library writes
+pub le_word : (w : ℕ) → to_le_bytes w32 w ≡ word_bytes w
+unfolding word_bytes
+le_word w = refl
 
 -- five words, each after the last
 pub five_words : (l : List ℕ) (a b c d e : ℕ) {u v w x y : List ℕ} → u ≡ sets l 0 (word_bytes a) → v ≡ sets u 4 (word_bytes b) → w ≡ sets v 8 (word_bytes c)

@@ -1,11 +1,11 @@
 -- What an attribute's bytes stand for ("Attribute bytes"): the first word, the two layouts, what is unreadable, the answer.
 -- Assumes nothing.
-use Rattle.std.specs.Prelude.{ℕ, ◌/◌, ◌%◌, Bool, true, false, cond, not, ◌&&◌, ◌||◌, List, eqb, length}
+use Rattle.std.specs.Prelude.{ℕ, ◌/◌, ◌%◌, Bool, true, false, cond, not, ◌&&◌, ◌||◌, List, Result, Ok, Err, eqb, length}
 use Rattle.capabilities.specs.Sets.{full, union, outside}
 use Rattle.attribute.specs.Words.{word_at, set_of}
 use Rattle.attribute.specs.declared.FileCapabilities.{FileCapabilities}
-use Rattle.attribute.specs.declared.Reading.{Reading}
-use Rattle.attribute.specs.declared.Reading.TheVariants.{File, Unreadable}
+use Rattle.attribute.specs.declared.ReadError.{ReadError}
+use Rattle.attribute.specs.declared.ReadError.TheVariants.{Unreadable}
 
 -- first word: the revision is its top byte
 abbrev pub revision : List ℕ → ℕ
@@ -71,10 +71,13 @@ unreadable s =
     || bits_above40 (file_of s).permitted (file_of s).inheritable
 
 -- the answer for any bytes
-unfoldable pub reading : List ℕ → Reading
-reading s = cond (eqb (length s) 0) (File none_attached) (cond (unreadable s) Unreadable (File (file_of s)))
+unfoldable pub reading : List ℕ → Result FileCapabilities ReadError
+reading s = cond (eqb (length s) 0) (Ok none_attached) (cond (unreadable s) (Err Unreadable) (Ok (file_of s)))
 
 -- "What comes back": the number of each case
-abbrev pub reading_code : Reading → ℕ
-reading_code (File f) = 0
-reading_code Unreadable = 60
+abbrev pub read_code : ReadError → ℕ
+read_code Unreadable = 60
+
+abbrev pub reading_code : Result FileCapabilities ReadError → ℕ
+reading_code (Ok f) = 0
+reading_code (Err e) = read_code e

@@ -3,9 +3,14 @@
 // Every function is proved, for every argument: no public one has a `requires`. The crate assumes nothing.
 #![tactic(auto)]
 
+ghost use Rattle.std.specs.Prelude.{◌≡◌};
+ghost use Rattle.attribute.specs.Reader.{read_code};
+ghost use Rattle.attribute.specs.Writer.{write_code};
+
 mod reader;
 mod writer;
 
+use codes::{INVALID_ARGUMENT, NO_ROOM, UNREADABLE_ATTRIBUTE};
 pub use reader::{read, reading_code};
 pub use writer::write;
 
@@ -29,7 +34,8 @@ const INHERITABLE_HIGH: usize = 16;
 const WORD: u64 = 0x1_0000_0000;
 
 // A file's capabilities: whether an attribute is attached at all, its two sets and its effective bit. Where
-// none is attached the sets are empty and the bit is off.
+// none is attached the sets are empty and the bit is off. A flag, and no Option around the rest: launching asks the sets of every file.
+// No derived Default for that: tried, and what it promises, field by field, did not close `read` at once.
 #[derive(Clone, Copy)]
 pub struct FileCapabilities {
     pub attached: bool,
@@ -38,16 +44,39 @@ pub struct FileCapabilities {
     pub effective: bool,
 }
 
-// What the reader answers.
-#[derive(Clone, Copy)]
-pub enum Reading {
-    File(FileCapabilities),
+// Why an attribute is not read.
+#[derive(Clone, Copy, Debug, PartialEq, Eq)]
+pub enum ReadError {
+    // Its length, its revision or one of its bits is none that versions 1 and 2 have.
     Unreadable,
 }
 
-// What the writer answers: its code, and how many bytes it wrote, 0 where it refused.
-#[derive(Clone, Copy)]
-pub struct Written {
-    pub code: u8,
-    pub length: u32,
+// Why sets are not written.
+#[derive(Clone, Copy, Debug, PartialEq, Eq)]
+pub enum WriteError {
+    // A set has a bit above 40.
+    OutOfRange,
+    // What is to be written is longer than the buffer.
+    NoRoom,
+}
+
+impl From<ReadError> for u8 {
+    ghost from_gives = { λ e number. number ≡ read_code e };
+
+    fn from(error: ReadError) -> u8 {
+        match error {
+            ReadError::Unreadable => UNREADABLE_ATTRIBUTE,
+        }
+    }
+}
+
+impl From<WriteError> for u8 {
+    ghost from_gives = { λ e number. number ≡ write_code e };
+
+    fn from(error: WriteError) -> u8 {
+        match error {
+            WriteError::OutOfRange => INVALID_ARGUMENT,
+            WriteError::NoRoom => NO_ROOM,
+        }
+    }
 }

@@ -6,20 +6,20 @@ ghost use Rattle.attribute.specs.Reader.{bits_above40, file_of, length_of, readi
 
 use crate::{
     FIRST_WORD, FileCapabilities, INHERITABLE_HIGH, INHERITABLE_LOW, PERMITTED_HIGH, PERMITTED_LOW,
-    Reading, WORD, XATTR_CAPS_SZ_1, XATTR_CAPS_SZ_2,
+    ReadError, WORD, XATTR_CAPS_SZ_1, XATTR_CAPS_SZ_2,
 };
 use capabilities::sets;
-use codes::{DONE, UNREADABLE_ATTRIBUTE, wide};
+use codes::DONE;
 
 // The first word's top byte is the revision.
 const REVISION_UNIT: u64 = 0x0100_0000;
 
 // The file's capabilities that bytes stand for, or that they are unreadable. No bytes mean that no attribute is attached.
-pub fn read(bytes: &[u8]) -> Reading
+pub fn read(bytes: &[u8]) -> Result<FileCapabilities, ReadError>
     ensures { result ≡ reading bytes.now }
 {
-    if bytes.len() == 0 {
-        return Reading::File(FileCapabilities {
+    if bytes.is_empty() {
+        return Ok(FileCapabilities {
             attached: false,
             permitted: 0,
             inheritable: 0,
@@ -27,18 +27,19 @@ pub fn read(bytes: &[u8]) -> Reading
         });
     }
     if is_unreadable(bytes) {
-        return Reading::Unreadable;
+        return Err(ReadError::Unreadable);
     }
-    Reading::File(file_of(bytes))
+    Ok(file_of(bytes))
 }
 
-// The number that a reading answers: 0, or 60 where it is unreadable.
-pub fn reading_code(answer: Reading) -> u8
+// The number that a reading answers: 0, or 60 where it is unreadable. (A function of its own, for its own error and
+// definition, as sheet_reader's `sheet_code` says.)
+pub fn reading_code(answer: Result<FileCapabilities, ReadError>) -> u8
     ensures { result ≡ reading_code answer }
 {
     match answer {
-        Reading::File(_) => DONE,
-        Reading::Unreadable => UNREADABLE_ATTRIBUTE,
+        Ok(_) => DONE,
+        Err(error) => u8::from(error),
     }
 }
 
@@ -110,7 +111,7 @@ fn set_of(low: u64, high: u64) -> u64
     low + WORD * high
 }
 
-// The little-endian word that starts at `at`. A byte past the end counts as 0.
+// The little-endian word that starts at `at`. A byte past the end counts as 0, so this is no from_le_bytes of four bytes.
 fn word(bytes: &[u8], at: usize) -> u64
     requires { at ≤ 16 }
     ensures { (result ≡ word_at bytes.now at) × (result < 0x100000000) }
@@ -124,8 +125,5 @@ fn word(bytes: &[u8], at: usize) -> u64
 fn byte(bytes: &[u8], at: usize) -> u64
     ensures { (result ≡ byte_at bytes.now at) × (result < 256) }
 {
-    if at < bytes.len() {
-        return wide(bytes[at]);
-    }
-    0
+    u64::from(bytes.get(at).copied().unwrap_or(0))
 }

@@ -1,11 +1,14 @@
 // capset(2), call 2.
+#![tactic(auto, unfolding(rules::specs::Capset::capset, rules::specs::Capset::capset_sets))]
+
 ghost use Rattle.std.specs.Prelude.{◌≡◌};
 ghost use Rattle.rules.specs.Capset.{capset};
 
+use crate::done::done;
 use capabilities::header::CAP_SETPCAP;
 use capabilities::sets;
 use credentials::Credentials;
-use rules::{Answer, Cause};
+use rules::{Answer, Cause, Refusal};
 
 // Call 2: the new sets, if the four tests, which stand in the order of the rule, allow them. The ambient set loses what left the
 // permitted or the inheritable one.
@@ -16,25 +19,21 @@ pub(crate) fn capset(start: Credentials, permitted: u64, inheritable: u64, effec
     if sets::lacks(held.effective, CAP_SETPCAP)
         & sets::outside(inheritable, held.inheritable | held.permitted)
     {
-        return Answer::NotPermitted(Cause::InheritableBeyondPermitted);
+        return Err(Refusal::NotPermitted(Cause::InheritableBeyondPermitted));
     }
     if sets::outside(inheritable, held.inheritable | held.bounding) {
-        return Answer::NotPermitted(Cause::InheritableBeyondBounding);
+        return Err(Refusal::NotPermitted(Cause::InheritableBeyondBounding));
     }
     if sets::outside(permitted, held.permitted) {
-        return Answer::NotPermitted(Cause::PermittedGrows);
+        return Err(Refusal::NotPermitted(Cause::PermittedGrows));
     }
     if sets::outside(effective, permitted) {
-        return Answer::NotPermitted(Cause::EffectiveBeyondPermitted);
+        return Err(Refusal::NotPermitted(Cause::EffectiveBeyondPermitted));
     }
-    let ambient = held.ambient & permitted & inheritable;
     let mut next = start;
     next.sets.permitted = permitted;
     next.sets.inheritable = inheritable;
     next.sets.effective = effective;
-    next.sets.ambient = ambient;
-    Answer::Done {
-        value: 0,
-        after: next,
-    }
+    next.sets.ambient = held.ambient & permitted & inheritable;
+    done(0, next)
 }

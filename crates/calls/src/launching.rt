@@ -1,12 +1,15 @@
 // Launching, call 1: execve(2) of a file with an owner, flags, a group and an attribute.
+#![tactic(auto, unfolding(rules::specs::Launching::changes_effective, rules::specs::Launching::counted, rules::specs::Launching::counted_set, rules::specs::Launching::effective_id, rules::specs::Launching::falls_short, rules::specs::Launching::file_read, rules::specs::Launching::gained, rules::specs::Launching::ignores_set_id, rules::specs::Launching::in_force, rules::specs::Launching::launch, rules::specs::Launching::launched, rules::specs::Launching::launched_ambient, rules::specs::Launching::launched_effective, rules::specs::Launching::launched_ids, rules::specs::Launching::launched_sets, rules::specs::Launching::root_counts, rules::specs::Launching::ignores_attribute, rules::specs::Launching::is_privileged))]
+
 ghost use Rattle.std.specs.Prelude.{◌≡◌};
 ghost use Rattle.rules.specs.Launching.{changes_effective, counted, counted_set, effective_id, falls_short, file_read, gained, ignores_set_id, in_force, launch, launched, launched_ambient, launched_effective, launched_ids, launched_sets, root_counts};
 
-use attribute::{FileCapabilities, Reading};
+use crate::done::done;
+use attribute::{FileCapabilities, ReadError};
 use capabilities::sets;
 use credentials::securebits::{SECBIT_KEEP_CAPS, SECBIT_NOROOT};
 use credentials::{Credentials, Ids, Sets};
-use rules::{Answer, Cause};
+use rules::{Answer, Cause, Refusal};
 
 // The file's mode has the set-user-ID bit.
 const SET_USER_ID: u64 = 1;
@@ -34,45 +37,53 @@ pub(crate) fn launch(
 ) -> Answer
     ensures { result ≡ launch start owner flags group attribute.now }
 {
-    let Reading::File(file) = file_read(start.nnp, flags, attribute) else {
-        return Answer::UnreadableAttribute;
+    let nnp = start.nnp;
+    let mode = Mode { nnp, flags };
+    let Ok(file) = mode.file_read(attribute) else {
+        return Err(Refusal::UnreadableAttribute);
     };
     if falls_short(start.sets, file) {
-        return Answer::NotPermitted(Cause::LaunchFallsShort);
+        return Err(Refusal::NotPermitted(Cause::LaunchFallsShort));
     }
-    Answer::Done {
-        value: 0,
-        after: launched(start, owner, flags, group, file),
-    }
+    done(0, launched(start, owner, flags, group, file))
 }
 
-// Launching, a: an attribute that is ignored is not read and counts as not attached.
-fn file_read(nnp: bool, flags: u64, attribute: &[u8]) -> Reading
-    ensures { result ≡ file_read nnp flags attribute.now }
-{
-    if ignores_set_id(nnp, flags) | (flags & NO_FILE_CAPS != 0) {
-        return Reading::File(FileCapabilities {
-            attached: false,
-            permitted: 0,
-            inheritable: 0,
-            effective: false,
-        });
+// How a file is launched: with no-new-privs or without, and with the call's flags.
+#[derive(Clone, Copy)]
+struct Mode {
+    nnp: bool,
+    flags: u64,
+}
+
+impl Mode {
+    // Launching, a: an attribute that is ignored is not read and counts as not attached.
+    fn file_read(self, attribute: &[u8]) -> Result<FileCapabilities, ReadError>
+        ensures { result ≡ file_read self.nnp self.flags attribute.now }
+    {
+        if self.ignores_set_id() | (self.flags & NO_FILE_CAPS != 0) {
+            return Ok(FileCapabilities {
+                attached: false,
+                permitted: 0,
+                inheritable: 0,
+                effective: false,
+            });
+        }
+        attribute::read(attribute)
     }
-    attribute::read(attribute)
-}
 
-// Launching, a: whether the set-ID bits are ignored.
-fn ignores_set_id(nnp: bool, flags: u64) -> bool
-    ensures { result ≡ ignores_set_id nnp flags }
-{
-    nnp | (flags & NOSUID != 0) | (flags & TRACED != 0)
-}
+    // Launching, a: whether the set-ID bits are ignored.
+    fn ignores_set_id(self) -> bool
+        ensures { result ≡ ignores_set_id self.nnp self.flags }
+    {
+        self.nnp | (self.flags & NOSUID != 0) | (self.flags & TRACED != 0)
+    }
 
-// Launching, a and b: whether a set-ID bit is set and not ignored.
-fn in_force(nnp: bool, flags: u64, bit: u64) -> bool
-    ensures { result ≡ in_force nnp flags bit }
-{
-    (flags & bit != 0) & !ignores_set_id(nnp, flags)
+    // Launching, a and b: whether a set-ID bit is set and not ignored.
+    fn in_force(self, bit: u64) -> bool
+        ensures { result ≡ in_force self.nnp self.flags bit }
+    {
+        (self.flags & bit != 0) & !self.ignores_set_id()
+    }
 }
 
 // Launching, b to e: what a launch that is not refused leaves. No-new-privs stays.
@@ -85,94 +96,120 @@ fn launched(
 ) -> Credentials
     ensures { result ≡ launched start owner flags group file }
 {
-    let by_owner = in_force(start.nnp, flags, SET_USER_ID);
-    let by_group = in_force(start.nnp, flags, SET_GROUP_ID);
-    let uids = launched_ids(by_owner, owner, start.uids);
-    let gids = launched_ids(by_group, group, start.gids);
-    let counts = counted(start.securebits, uids, file);
-    let changes_user = changes_effective(by_owner, owner, start.uids);
-    let changes_group = changes_effective(by_group, group, start.gids);
-    let privileged = file.attached | changes_user | changes_group;
+    let nnp = start.nnp;
+    let mode = Mode { nnp, flags };
+    let by_owner = SetId {
+        in_force: mode.in_force(SET_USER_ID),
+        id: owner,
+    };
+    let by_group = SetId {
+        in_force: mode.in_force(SET_GROUP_ID),
+        id: group,
+    };
+    let uids = by_owner.launched_ids(start.uids);
+    let gids = by_group.launched_ids(start.gids);
+    let counting = Counting {
+        securebits: start.securebits,
+        uids,
+        file,
+    };
+    let privileged = file.attached
+        | by_owner.changes_effective(start.uids)
+        | by_group.changes_effective(start.gids);
     let ambient = launched_ambient(privileged, start.sets.ambient);
     let mut next = start;
     next.uids = uids;
     next.gids = gids;
-    next.sets = launched_sets(start.sets, counts, ambient);
+    next.sets = launched_sets(start.sets, counting.counted(), ambient);
     next.securebits = sets::difference(start.securebits, SECBIT_KEEP_CAPS);
     next
 }
 
-// Launching, b, of user IDs and of group IDs alike: the saved and the filesystem ID follow the effective one.
-fn launched_ids(force: bool, id: u64, old: Ids) -> Ids
-    ensures { result ≡ launched_ids force id old }
-{
-    let effective = effective_id(force, id, old);
-    let mut next = old;
-    next.effective = effective;
-    next.saved = effective;
-    next.filesystem = effective;
-    next
+// A set-ID bit, user or group: whether it is in force, and the file's ID.
+#[derive(Clone, Copy)]
+struct SetId {
+    in_force: bool,
+    id: u64,
 }
 
-// Launching, b: the effective ID, which a set-ID bit in force makes the file's.
-fn effective_id(force: bool, id: u64, old: Ids) -> u64
-    ensures { result ≡ effective_id force id old }
-{
-    if force {
-        return id;
+impl SetId {
+    // Launching, b: the saved and the filesystem ID follow the effective one.
+    fn launched_ids(self, old: Ids) -> Ids
+        ensures { result ≡ launched_ids self.in_force self.id old }
+    {
+        let effective = self.effective_id(old);
+        let mut next = old;
+        next.effective = effective;
+        next.saved = effective;
+        next.filesystem = effective;
+        next
     }
-    old.effective
-}
 
-// Launching, c: the file's sets and bit as they count for these user IDs.
-fn counted(securebits: u64, uids: Ids, file: FileCapabilities) -> FileCapabilities
-    ensures { result ≡ counted securebits uids file }
-{
-    let root = root_counts(securebits, uids, file);
-    let permitted = counted_set(securebits, uids, file, file.permitted);
-    let inheritable = counted_set(securebits, uids, file, file.inheritable);
-    let effective = file.effective | (root & (uids.effective == 0));
-    let mut next = file;
-    next.permitted = permitted;
-    next.inheritable = inheritable;
-    next.effective = effective;
-    next
-}
-
-// Launching, c: one of the file's sets as it counts, full for root.
-fn counted_set(securebits: u64, uids: Ids, file: FileCapabilities, own: u64) -> u64
-    ensures { result ≡ counted_set securebits uids file own }
-{
-    if root_counts(securebits, uids, file) & ((uids.real == 0) | (uids.effective == 0)) {
-        return sets::FULL;
+    // Launching, b: the effective ID, which a set-ID bit in force makes the file's.
+    fn effective_id(self, old: Ids) -> u64
+        ensures { result ≡ effective_id self.in_force self.id old }
+    {
+        if self.in_force {
+            self.id
+        } else {
+            old.effective
+        }
     }
-    own
+
+    // Launching, d: whether the bit counts: in force, it makes the effective ID differ from what it was.
+    fn changes_effective(self, old: Ids) -> bool
+        ensures { result ≡ changes_effective self.in_force self.id old }
+    {
+        self.in_force & (self.id != old.effective)
+    }
 }
 
-// Launching, c: whether root counts for more: NOROOT is clear, and it is not the exception of an attribute that is
-// attached with an effective ID of 0 alone.
-fn root_counts(securebits: u64, uids: Ids, file: FileCapabilities) -> bool
-    ensures { result ≡ root_counts securebits uids file }
-{
-    let keeps_own = file.attached & (uids.real != 0) & (uids.effective == 0);
-    !(securebits & SECBIT_NOROOT != 0) & !keeps_own
+// What rule c of launching looks at: a file, and the user IDs and the securebits that it is launched with.
+#[derive(Clone, Copy)]
+struct Counting {
+    securebits: u64,
+    uids: Ids,
+    file: FileCapabilities,
 }
 
-// Launching, d: whether a set-ID bit counts: in force, it makes the effective ID differ from what it was.
-fn changes_effective(force: bool, id: u64, old: Ids) -> bool
-    ensures { result ≡ changes_effective force id old }
-{
-    force & (id != old.effective)
+impl Counting {
+    // Launching, c: the file's sets and bit as they count.
+    fn counted(self) -> FileCapabilities
+        ensures { result ≡ counted self.securebits self.uids self.file }
+    {
+        let mut next = self.file;
+        next.permitted = self.counted_set(self.file.permitted);
+        next.inheritable = self.counted_set(self.file.inheritable);
+        next.effective = self.file.effective | (self.root_counts() & (self.uids.effective == 0));
+        next
+    }
+
+    // Launching, c: one of the file's sets as it counts, full for root.
+    fn counted_set(self, own: u64) -> u64
+        ensures { result ≡ counted_set self.securebits self.uids self.file own }
+    {
+        if self.root_counts() & ((self.uids.real == 0) | (self.uids.effective == 0)) {
+            sets::FULL
+        } else {
+            own
+        }
+    }
+
+    // Launching, c: whether root counts for more: NOROOT is clear, and it is not the exception of an attribute that is
+    // attached with an effective ID of 0 alone.
+    fn root_counts(self) -> bool
+        ensures { result ≡ root_counts self.securebits self.uids self.file }
+    {
+        let keeps_own = self.file.attached & (self.uids.real != 0) & (self.uids.effective == 0);
+        !(self.securebits & SECBIT_NOROOT != 0) & !keeps_own
+    }
 }
 
 // Launching, d: the ambient set, which a privileged file empties: one whose attribute counts, or a set-ID bit of it.
 fn launched_ambient(privileged: bool, ambient: u64) -> u64
     ensures { result ≡ launched_ambient privileged ambient }
 {
-    if privileged {
-        return 0;
-    }
-    ambient
+    if privileged { 0 } else { ambient }
 }
 
 // Launching, e and f: what a file gives a thread with these sets.
@@ -198,10 +235,7 @@ fn launched_sets(held: Sets, file: FileCapabilities, ambient: u64) -> Sets
 fn launched_effective(on: bool, permitted: u64, ambient: u64) -> u64
     ensures { result ≡ launched_effective on permitted ambient }
 {
-    if on {
-        return permitted;
-    }
-    ambient
+    if on { permitted } else { ambient }
 }
 
 // Launching, f: whether the file's own bit is on and its own permitted set is not given whole.

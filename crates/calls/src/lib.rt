@@ -1,7 +1,7 @@
 // The twenty-two calls, by one entry, `perform`: any credentials, number, operands and attribute bytes in, the answer out.
 //
 // It alone can be called from outside, for it alone gives 72 and 22 before what a call's own rules refuse. Every function is proved, for
-// every argument: none has a `requires`. The crate assumes nothing.
+// every argument: none has a `requires`. A rule changes credentials field by field, the form that document 01 names. The crate assumes nothing.
 #![tactic(auto)]
 
 mod ambient;
@@ -9,7 +9,9 @@ mod bounding;
 mod call;
 mod capset;
 mod decoding;
+mod done;
 mod group_ids;
+mod id_calls;
 mod ids;
 mod launching;
 mod securebits;

@@ -1,11 +1,14 @@
 // Securebits, calls 9 and 10.
+#![tactic(auto, unfolding(rules::specs::Securebits::get_securebits, rules::specs::Securebits::set_securebits, rules::specs::Securebits::changes_locked))]
+
 ghost use Rattle.std.specs.Prelude.{◌≡◌};
 ghost use Rattle.rules.specs.Securebits.{get_securebits, set_securebits};
 
+use crate::done::done;
 use capabilities::header::CAP_SETPCAP;
 use capabilities::sets;
 use credentials::Credentials;
-use rules::{Answer, Cause};
+use rules::{Answer, Cause, Refusal};
 
 // The locks of the four flags. Each is twice its flag.
 const ALL_LOCKS: u64 = 0xaa;
@@ -15,30 +18,24 @@ pub(crate) fn set_securebits(start: Credentials, bits: u64) -> Answer
     ensures { result ≡ set_securebits start bits }
 {
     if sets::lacks(start.sets.effective, CAP_SETPCAP) {
-        return Answer::NotPermitted(Cause::CapabilityNotEffective);
+        return Err(Refusal::NotPermitted(Cause::CapabilityNotEffective));
     }
     let locks = start.securebits & ALL_LOCKS;
     if sets::outside(locks, bits) {
-        return Answer::NotPermitted(Cause::LockUndone);
+        return Err(Refusal::NotPermitted(Cause::LockUndone));
     }
     let locked = locks / 2;
     if start.securebits & locked != bits & locked {
-        return Answer::NotPermitted(Cause::LockedFlagChanged);
+        return Err(Refusal::NotPermitted(Cause::LockedFlagChanged));
     }
     let mut next = start;
     next.securebits = bits;
-    Answer::Done {
-        value: 0,
-        after: next,
-    }
+    done(0, next)
 }
 
 // Call 10: all the bits.
 pub(crate) fn get_securebits(start: Credentials) -> Answer
     ensures { result ≡ get_securebits start }
 {
-    Answer::Done {
-        value: start.securebits,
-        after: start,
-    }
+    done(start.securebits, start)
 }

@@ -1,176 +1,164 @@
-// The ID calls 15 to 18 on user IDs: setuid(2), setreuid(2), setresuid(2) and setfsuid(2), and what follows for the sets.
-ghost use Rattle.std.specs.Prelude.{◌≡◌};
-ghost use Rattle.rules.specs.Ids.{effective_left, effective_taken, filesystem_left, filesystem_taken, filesystem_user_id_changed, root_left, setfsuid, setresuid, setreuid, sets_after, sets_after_filesystem, setuid, user_ids_changed};
+// User IDs, and what follows for the sets where they change: rules 1 to 4.
+#![tactic(auto, unfolding(rules::specs::Ids::effective_left, rules::specs::Ids::effective_taken, rules::specs::Ids::filesystem_left, rules::specs::Ids::filesystem_taken, rules::specs::Ids::root_left, rules::specs::Ids::sets_after, rules::specs::Ids::sets_after_filesystem))]
 
+ghost use Rattle.std.specs.Prelude.{◌≡◌, refl};
+ghost use Rattle.capabilities.specs.Header.{CAP_SETUID};
+ghost use Rattle.rules.specs.Fields.{with_sets, with_uids};
+ghost use Rattle.rules.specs.Ids.{effective_left, effective_taken, filesystem_left, filesystem_taken, filesystem_user_id_changed, root_left, sets_after, sets_after_filesystem, user_ids_changed};
+
+use crate::id_calls::Kind;
 use crate::ids;
 use capabilities::header::CAP_SETUID;
 use capabilities::sets;
 use credentials::securebits::{SECBIT_KEEP_CAPS, SECBIT_NO_SETUID_FIXUP};
 use credentials::{Credentials, Ids, Sets};
-use rules::{Answer, Cause, NewIds};
 
 // Rule 4's set: CHOWN, DAC_OVERRIDE, DAC_READ_SEARCH, FOWNER, FSETID, LINUX_IMMUTABLE, MKNOD and MAC_OVERRIDE.
 const FILESYSTEM_SET: u64 = 0x1_0800_021f;
 
-// Call 15: all four user IDs become id for a thread with SETUID. Without it id has to be the real or the saved one, else the call is
-// refused, and the effective and the filesystem ID become it. The sets follow by rules 1 to 3.
-pub(crate) fn setuid(start: Credentials, id: u64) -> Answer
-    ensures { result ≡ setuid start id }
-{
-    let any = sets::has(start.sets.effective, CAP_SETUID);
-    user_ids_changed(start, ids::setuid(any, start.uids, id))
-}
+// The kind of calls 15 to 18.
+pub(crate) struct UserIds;
 
-// Call 16: the real and the effective ID become those given, and the filesystem ID follows the effective one; refused where the thread lacks
-// SETUID and an ID is not among those allowed. The sets follow by rules 1 to 3.
-pub(crate) fn setreuid(start: Credentials, real: u64, effective: u64) -> Answer
-    ensures { result ≡ setreuid start real effective }
-{
-    let any = sets::has(start.sets.effective, CAP_SETUID);
-    user_ids_changed(start, ids::setreuid(any, start.uids, real, effective))
-}
+impl Kind for UserIds {
+    ghost of = { λ c. c.uids };
 
-// Call 17: the real, the effective and the saved ID become those given, and the filesystem ID follows the effective one; refused where the
-// thread lacks SETUID and an ID is not among those allowed. The sets follow by rules 1 to 3.
-pub(crate) fn setresuid(start: Credentials, real: u64, effective: u64, saved: u64) -> Answer
-    ensures { result ≡ setresuid start real effective saved }
-{
-    let any = sets::has(start.sets.effective, CAP_SETUID);
-    user_ids_changed(
-        start,
-        ids::setresuid(any, start.uids, real, effective, saved),
-    )
-}
+    ghost with = { λ c new. with_sets (with_uids c new) (sets_after c.uids new c.securebits c.sets) };
 
-// Call 18: the filesystem ID becomes id, if it may. Never refused: the value is the old filesystem ID whether it changes or not. The
-// effective set follows by rule 4.
-pub(crate) fn setfsuid(start: Credentials, id: u64) -> Answer
-    ensures { result ≡ setfsuid start id }
-{
-    let any = sets::has(start.sets.effective, CAP_SETUID);
-    filesystem_user_id_changed(start, ids::setfsuid(any, start.uids, id))
-}
+    ghost with_filesystem = { λ c new. with_sets (with_uids c new) (sets_after_filesystem c.uids new c.securebits c.sets) };
 
-// Calls 15 to 17: the new user IDs and the sets after them, or refused.
-fn user_ids_changed(start: Credentials, new: NewIds) -> Answer
-    ensures { result ≡ user_ids_changed start new }
-{
-    let NewIds::Allowed(uids) = new else {
-        return Answer::NotPermitted(Cause::IdNotAllowed);
-    };
-    let mut next = start;
-    next.uids = uids;
-    next.sets = sets_after(start.uids, uids, start.securebits, start.sets);
-    Answer::Done {
-        value: 0,
-        after: next,
+    ghost changed = { user_ids_changed };
+
+    ghost filesystem_changed = { filesystem_user_id_changed };
+
+    ghost CAPABILITY = { CAP_SETUID };
+
+    ghost allowed = { λ c new. refl };
+
+    ghost not_allowed = { λ c. refl };
+
+    ghost filesystem_allowed = { λ c new. refl };
+
+    ghost filesystem_not_allowed = { λ c. refl };
+
+    const CAPABILITY: u64 = CAP_SETUID;
+
+    fn ids(held: Credentials) -> Ids {
+        held.uids
+    }
+
+    // The sets follow by rules 1 to 3.
+    fn with_ids(held: Credentials, new: Ids) -> Credentials {
+        let old = held.uids;
+        let sets = Change { old, new }.sets_after(held.securebits, held.sets);
+        with_uids_and_sets(held, new, sets)
+    }
+
+    // The effective set follows by rule 4.
+    fn with_filesystem_id(held: Credentials, new: Ids) -> Credentials {
+        let old = held.uids;
+        let sets = Change { old, new }.sets_after_filesystem(held.securebits, held.sets);
+        with_uids_and_sets(held, new, sets)
     }
 }
 
-// Call 18: the new user IDs and the sets after them, or nothing changes.
-fn filesystem_user_id_changed(start: Credentials, new: NewIds) -> Answer
-    ensures { result ≡ filesystem_user_id_changed start new }
-{
-    let old = start.uids;
-    let NewIds::Allowed(uids) = new else {
-        return Answer::Done {
-            value: old.filesystem,
-            after: start,
-        };
-    };
-    let mut next = start;
-    next.uids = uids;
-    next.sets = sets_after_filesystem(old, uids, start.securebits, start.sets);
-    Answer::Done {
-        value: old.filesystem,
-        after: next,
-    }
-}
-
-// Calls 15 to 17: what rules 1, 2 and 3 make of the sets, unless NO_SETUID_FIXUP is set.
-fn sets_after(old: Ids, new: Ids, securebits: u64, held: Sets) -> Sets
-    ensures { result ≡ sets_after old new securebits held }
-{
-    if securebits & SECBIT_NO_SETUID_FIXUP != 0 {
-        return held;
-    }
-    let by_1 = root_left(old, new, securebits, held);
-    let by_2 = effective_left(old, new, by_1);
-    effective_taken(old, new, by_2)
-}
-
-// Rule 1: where one of the three IDs was 0 and none is now, A is cleared, and P and E too unless KEEP_CAPS is set.
-fn root_left(old: Ids, new: Ids, securebits: u64, held: Sets) -> Sets
-    ensures { result ≡ root_left old new securebits held }
+// The credentials with these user IDs and these sets.
+fn with_uids_and_sets(held: Credentials, uids: Ids, sets: Sets) -> Credentials
+    ensures { result ≡ with_sets (with_uids held uids) sets }
 {
     let mut next = held;
-    if ids::one_of_three(old, 0) & !ids::one_of_three(new, 0) {
-        next.ambient = 0;
-        if securebits & SECBIT_KEEP_CAPS != 0 {
-            return next;
+    next.uids = uids;
+    next.sets = sets;
+    next
+}
+
+// A change of the four user IDs.
+#[derive(Clone, Copy)]
+struct Change {
+    old: Ids,
+    new: Ids,
+}
+
+impl Change {
+    // Calls 15 to 17: what rules 1, 2 and 3 make of the sets, unless NO_SETUID_FIXUP is set.
+    fn sets_after(self, securebits: u64, held: Sets) -> Sets
+        ensures { result ≡ sets_after self.old self.new securebits held }
+    {
+        if securebits & SECBIT_NO_SETUID_FIXUP != 0 {
+            return held;
         }
-        next.permitted = 0;
-        next.effective = 0;
-        return next;
+        let by_1 = self.root_left(securebits, held);
+        let by_2 = self.effective_left(by_1);
+        self.effective_taken(by_2)
     }
-    held
-}
 
-// Rule 2: the effective ID from 0 to nonzero clears E.
-fn effective_left(old: Ids, new: Ids, held: Sets) -> Sets
-    ensures { result ≡ effective_left old new held }
-{
-    let mut next = held;
-    if (old.effective == 0) & (new.effective != 0) {
-        next.effective = 0;
-        return next;
+    // Rule 1: where one of the three IDs was 0 and none is now, A is cleared, and P and E too unless KEEP_CAPS is set.
+    fn root_left(self, securebits: u64, held: Sets) -> Sets
+        ensures { result ≡ root_left self.old self.new securebits held }
+    {
+        if !(ids::one_of_three(self.old, 0) & !ids::one_of_three(self.new, 0)) {
+            return held;
+        }
+        let mut next = held;
+        next.ambient = 0;
+        if securebits & SECBIT_KEEP_CAPS == 0 {
+            next.permitted = 0;
+            next.effective = 0;
+        }
+        next
     }
-    held
-}
 
-// Rule 3: the effective ID from nonzero to 0 makes P the effective set.
-fn effective_taken(old: Ids, new: Ids, held: Sets) -> Sets
-    ensures { result ≡ effective_taken old new held }
-{
-    let mut next = held;
-    if (old.effective != 0) & (new.effective == 0) {
-        next.effective = held.permitted;
-        return next;
+    // Rule 2: the effective ID from 0 to nonzero clears E.
+    fn effective_left(self, held: Sets) -> Sets
+        ensures { result ≡ effective_left self.old self.new held }
+    {
+        let mut next = held;
+        if (self.old.effective == 0) & (self.new.effective != 0) {
+            next.effective = 0;
+        }
+        next
     }
-    held
-}
 
-// Call 18: what rule 4 makes of the sets, unless NO_SETUID_FIXUP is set.
-fn sets_after_filesystem(old: Ids, new: Ids, securebits: u64, held: Sets) -> Sets
-    ensures { result ≡ sets_after_filesystem old new securebits held }
-{
-    if securebits & SECBIT_NO_SETUID_FIXUP != 0 {
-        return held;
+    // Rule 3: the effective ID from nonzero to 0 makes P the effective set.
+    fn effective_taken(self, held: Sets) -> Sets
+        ensures { result ≡ effective_taken self.old self.new held }
+    {
+        let mut next = held;
+        if (self.old.effective != 0) & (self.new.effective == 0) {
+            next.effective = held.permitted;
+        }
+        next
     }
-    let left = filesystem_left(old, new, held);
-    filesystem_taken(old, new, left)
-}
 
-// Rule 4: the filesystem ID from 0 to nonzero takes the filesystem set from E.
-fn filesystem_left(old: Ids, new: Ids, held: Sets) -> Sets
-    ensures { result ≡ filesystem_left old new held }
-{
-    let mut next = held;
-    if (old.filesystem == 0) & (new.filesystem != 0) {
-        next.effective = sets::difference(held.effective, FILESYSTEM_SET);
-        return next;
+    // Call 18: what rule 4 makes of the sets, unless NO_SETUID_FIXUP is set.
+    fn sets_after_filesystem(self, securebits: u64, held: Sets) -> Sets
+        ensures { result ≡ sets_after_filesystem self.old self.new securebits held }
+    {
+        if securebits & SECBIT_NO_SETUID_FIXUP != 0 {
+            return held;
+        }
+        let left = self.filesystem_left(held);
+        self.filesystem_taken(left)
     }
-    held
-}
 
-// Rule 4: the filesystem ID from nonzero to 0 gives E the filesystem set's part of P.
-fn filesystem_taken(old: Ids, new: Ids, held: Sets) -> Sets
-    ensures { result ≡ filesystem_taken old new held }
-{
-    let mut next = held;
-    if (old.filesystem != 0) & (new.filesystem == 0) {
-        next.effective = held.effective | (FILESYSTEM_SET & held.permitted);
-        return next;
+    // Rule 4: the filesystem ID from 0 to nonzero takes the filesystem set from E.
+    fn filesystem_left(self, held: Sets) -> Sets
+        ensures { result ≡ filesystem_left self.old self.new held }
+    {
+        let mut next = held;
+        if (self.old.filesystem == 0) & (self.new.filesystem != 0) {
+            next.effective = sets::difference(held.effective, FILESYSTEM_SET);
+        }
+        next
     }
-    held
+
+    // Rule 4: the filesystem ID from nonzero to 0 gives E the filesystem set's part of P.
+    fn filesystem_taken(self, held: Sets) -> Sets
+        ensures { result ≡ filesystem_taken self.old self.new held }
+    {
+        let mut next = held;
+        if (self.old.filesystem != 0) & (self.new.filesystem == 0) {
+            next.effective |= FILESYSTEM_SET & held.permitted;
+        }
+        next
+    }
 }

@@ -1,4 +1,6 @@
 // The capabilities' numbers by the names of linux/capability.h.
+#![tactic(auto, unfolding(crate::specs::Header::header))]
+
 ghost use Rattle.std.specs.Prelude.{◌≡◌};
 ghost use Rattle.capabilities.specs.Header.{header};
 

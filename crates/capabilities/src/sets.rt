@@ -2,6 +2,8 @@
 //
 // A set is joined by `a | b` and cut by `a & b` in place; what takes more than one operator is here.
 // A number from 64 on is no member of any set.
+#![tactic(auto, unfolding(crate::specs::Sets::lacks, crate::specs::Sets::outside, crate::specs::Sets::single))]
+
 ghost use Rattle.std.specs.Prelude.{◌≡◌};
 ghost use Rattle.capabilities.specs.Sets.{has, lacks, minus, outside, single, within};
 

@@ -1,47 +1,39 @@
--- What a reader gives, by the room that it is lent, and what numbers tell that are the values of credentials. Assumes nothing.
-use native.Mathlib.Omega.{arith}
-use native.Mathlib.Nat.{zero-add}
-use mathlib.Core.Path.{◌≡◌, refl, ◌∙◌}
-use mathlib.Core.Bool.{Bool, true, false, ◌&&◌, false≢true}
-use mathlib.Core.List.{List, ◌++◌}
-use Prim.Native.Nat.{ℕ, ◌+◌, ◌<◌, ◌≤◌}
-use borrow.Author.Tests.{le-leb, lt-leb, eqb-true}
-use lib.Dec.{eqb, leb}
-use lib.ListN.{length, drop, get_or}
-use lib.Seq.{sets, sets-eq}
+-- What numbers come to that are or are not the values of credentials. Assumes nothing.
+use mathlib.Core.Path.{◌≡◌, refl, sym, ap}
+use mathlib.Core.Bool.{Bool, true, false, cond, true≢false}
+use mathlib.Core.List.{List}
+use Prim.Native.Nat.{ℕ}
+use lib.ListN.{length}
+use Rattle.std.specs.Prelude.{Option, Some, None, Result, Ok, Err, MatchResult, IsErrAnd}
+use Rattle.std.specs.Option.{is_some, unwrap_or}
 use Rattle.credentials.specs.declared.Credentials.{Credentials}
-use Rattle.format.specs.declared.SheetReading.{SheetReading}
-use Rattle.format.specs.declared.SheetReading.TheVariants.{Sheet, Malformed, Invalid}
-use Rattle.format.specs.Sheet.{id_kinds, uid_kinds, gid_kinds, set_kinds, flag_kinds, sheet_kinds, sheet_code, sheet_line}
-use Rattle.capi.specs.Interface.{joined, given_number, given_in, sheet_number, sheet_given, are_values}
+use Rattle.format.specs.Sheet.{sheet_answer, sheet_buffer, sheet_write_code}
+use Rattle.capi.specs.Interface.{are_values, given_credentials, joined, values_buffer, values_written, answered}
+
+-- numbers that are the values of no credentials: 72, and nothing written; else what the sheet writer answers and writes
+not_given : (t : Bool) (c : Credentials) → cond {A = Option Credentials} t (Some c) None ≡ None → t ≡ false
+not_given true c h = absurd (true≢false (ap is_some h))
+not_given false c h = refl
+
+is_given : (t : Bool) {c : Credentials} (d : Credentials) → cond {A = Option Credentials} t (Some c) None ≡ Some d → (t ≡ true) × (c ≡ d)
+is_given true d h = (refl, ap (λ (r : Option Credentials). unwrap_or r d) h)
+is_given false d h = absurd (true≢false (ap is_some (sym h)))
 
 module _ (vs old : List ℕ) where
-  -- there is room
-  pub given : length vs ≤ length old → (joined 0 (length vs) ≡ given_number vs (length old)) × (vs ++ drop (length vs) old ≡ given_in vs old)
-  unfolding given_number given_in
-  given h = rw (le-leb (length vs) (length old) h) (refl, refl)
+  pub not_written : given_credentials vs ≡ None → (joined 72 0 ≡ answered sheet_write_code (values_written vs (length old))) × (old ≡ values_buffer vs old)
+  unfolding given_credentials values_written values_buffer
+  not_written h = let t = not_given (are_values vs) _ h in rw t (refl, refl)
 
-  -- there is none
-  pub no_room : length old < length vs → (joined 28 0 ≡ given_number vs (length old)) × (old ≡ given_in vs old)
-  unfolding given_number given_in
-  no_room h = rw (lt-leb (length vs) (length old) h) (refl, refl)
+  pub sheet_written : (c : Credentials) → given_credentials vs ≡ Some c
+      → (answered sheet_write_code (sheet_answer c (length old)) ≡ answered sheet_write_code (values_written vs (length old))) × (sheet_buffer c old ≡ values_buffer vs old)
+  unfolding given_credentials values_written values_buffer
+  sheet_written c h =
+      let t = is_given (are_values vs) c h in
+      rw t.0 (ap (λ (d : Credentials). answered sheet_write_code (sheet_answer d (length old))) (sym t.1), ap (λ (d : Credentials). sheet_buffer d old) (sym t.1))
 
-  -- numbers stored one after the other
-  pub stored : length vs ≤ length old → sets old 0 vs ≡ vs ++ drop (length vs) old
-  stored h = let f : 0 + length vs ≤ length old = omega (arith, h) in sets-eq vs old 0 f ∙ rw (zero-add (length vs))
-
-and_first : (x y : Bool) → x && y ≡ true → x ≡ true
-and_first true y h = refl
-and_first false y h = absurd (false≢true h)
-
--- values of credentials are fifteen
-pub fifteen : (vs : List ℕ) → are_values vs ≡ true → length vs ≡ 15
-unfolding are_values sheet_kinds id_kinds uid_kinds gid_kinds set_kinds flag_kinds
-fifteen vs h = eqb-true (length vs) 15 (and_first (eqb (length vs) 15) (leb (get_or vs 14 0) 1) h)
-
--- a sheet that is not read
-pub sheet_refused : (r : SheetReading) (old : List ℕ) → ((c : Credentials) → r ≡ Sheet c → ⊥)
-    → (joined (sheet_code r) (sheet_line r) ≡ sheet_number r (length old)) × (old ≡ sheet_given r old)
-sheet_refused (Sheet c) old h = absurd (h c refl)
-sheet_refused (Malformed line) old h = (refl, refl)
-sheet_refused Invalid old h = (refl, refl)
+-- an answer whose refusal became its code is the same number
+pub by_code : {E : Type 0} (code : E → ℕ) (r : Result ℕ E) (s : Result ℕ ℕ) → MatchResult r (λ x. s ≡ Ok x) (λ e. IsErrAnd s (λ n. n ≡ code e))
+    → answered (λ n. n) s ≡ answered code r
+by_code code (Ok x) s h = ap (answered (λ n. n)) h
+by_code code (Err e) (Err n) h = ap (λ (m : ℕ). joined m 0) h
+by_code code (Err e) (Ok n) h = absurd h

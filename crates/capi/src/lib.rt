@@ -5,34 +5,27 @@
 // a place, a length or a count. What a reader gives are 64-bit numbers, in a slice that the caller lends. The crate assumes nothing.
 #![tactic(auto)]
 
-ghost use Rattle.std.specs.Prelude.{◌≡◌, ◌++◌, ◌≤◌, length, drop};
+ghost use Rattle.std.specs.Prelude.{◌≡◌, ◌<◌, length};
 ghost use Rattle.attribute.specs.Reader.{reading};
-ghost use Rattle.format.specs.Sheet.{credentials_of, read_sheet, sheet_values};
+ghost use Rattle.attribute.specs.Writer.{write_code};
+ghost use Rattle.format.specs.Sheet.{credentials_of, read_sheet, sheet_values, sheet_write_code};
 ghost use Rattle.format.specs.Report.{verdict, outcome, buffer, c_number};
 ghost use Rattle.names.specs.Reading.{read_text};
 ghost use Rattle.names.specs.Writing.{names_answer, names_buffer};
 ghost use Rattle.status.specs.Reading.{read_status};
-ghost use Rattle.status.specs.declared.Reading.TheVariants.{Shows};
-ghost use Rattle.capi.specs.Interface.{are_values, bit_buffer, bit_written, file_given, file_number, file_values, given_in, given_number, joined, low_place, named_sets, named_values, names_given, names_number, sheet_given, sheet_number, status_list, status_number, values_buffer, values_written, written_number};
+ghost use Rattle.capi.specs.Interface.{answered, bit_buffer, bit_written, file_given, file_number, file_values, given_credentials, given_in, given_number, joined, low_place, named_sets, named_values, names_given, names_number, sheet_given, sheet_number, status_list, status_number, values_buffer, values_written};
 
-use attribute::{FileCapabilities, Reading};
-use codes::{DONE, INVALID_ARGUMENT, INVALID_CREDENTIALS, MALFORMED, NO_ROOM};
+use attribute::{FileCapabilities, WriteError};
+use codes::{DONE, INVALID_CREDENTIALS, MALFORMED, NO_ROOM};
 use credentials::{Credentials, Ids, Sets};
-use format::SheetReading;
+use format::SheetError;
 use status::Status;
 
 // The place of the code in the number.
 const CODE: u64 = 0x1_0000_0000;
 
-// How many numbers a sheet has, a file's capabilities, and the sets that a text in names stands for.
+// How many numbers a sheet has.
 const SHEET_VALUES: usize = 15;
-
-const FILE_VALUES: usize = 4;
-
-const NAMED_VALUES: usize = 3;
-
-// The largest place or line that the number has room for.
-const LARGEST_PLACE: usize = 0xffff_ffff;
 
 // Runs the plan and writes its report at the front of the buffer: the code times 4294967296, plus the line of a fault (70) or the report's length
 // (0). A plan that is refused leaves the buffer as it was.
@@ -40,11 +33,7 @@ const LARGEST_PLACE: usize = 0xffff_ffff;
 pub extern "C" fn urrezkalu_run_plan(plan: &[u8], report: &mut [u8]) -> u64
     ensures { (result ≡ c_number (outcome (verdict plan.now) (length report.old))) × (report.new ≡ buffer (verdict plan.now) report.old) }
 {
-    let ran = plan::run_plan(plan, report);
-    let code = ran.code as u64;
-    let line = ran.line as u64;
-    let length = ran.length as u64;
-    code * CODE + (line + length)
+    format::c_number(plan::run_plan(plan, report))
 }
 
 // Reads a text that is to be a sheet: 70 with the line of its fault, 72 where its credentials are not valid, 28 where values is shorter than
@@ -53,31 +42,23 @@ pub extern "C" fn urrezkalu_run_plan(plan: &[u8], report: &mut [u8]) -> u64
 pub extern "C" fn urrezkalu_read_sheet(text: &[u8], values: &mut [u64]) -> u64
     ensures { (result ≡ sheet_number (read_sheet text.now) (length values.old)) × (values.new ≡ sheet_given (read_sheet text.now) values.old) }
 {
-    let answer = sheet_reader::read_sheet(text);
-    let SheetReading::Sheet(held) = answer else {
-        return joined(
-            sheet_reader::sheet_code(answer),
-            sheet_reader::sheet_line(answer),
-        );
-    };
-    if values.len() < SHEET_VALUES {
-        return joined(NO_ROOM, 0);
+    match sheet_reader::read_sheet(text) {
+        Ok(held) => give(values, &values_of(held)),
+        Err(SheetError::Malformed(line)) => joined(MALFORMED, line),
+        Err(SheetError::Invalid) => joined(INVALID_CREDENTIALS, 0),
     }
-    put_credentials(values, held);
-    joined(DONE, SHEET_VALUES as u32)
 }
 
 // Writes the sheet of the credentials whose values these are at the front of the buffer: 72 where there are not fifteen of them, the last is neither 0
 // nor 1, or the credentials are not valid, then 28 where the sheet is longer than the buffer, and in each case nothing is written; else the sheet's length.
 #[unsafe(no_mangle)]
 pub extern "C" fn urrezkalu_write_sheet(values: &[u64], sheet: &mut [u8]) -> u64
-    ensures { (result ≡ written_number (values_written values.now (length sheet.old))) × (sheet.new ≡ values_buffer values.now sheet.old) }
+    ensures { (result ≡ answered sheet_write_code (values_written values.now (length sheet.old))) × (sheet.new ≡ values_buffer values.now sheet.old) }
 {
-    if are_values(values) {
-        let written = sheet_writer::write_sheet(credentials_of(values), sheet);
-        return joined(written.code, written.length);
-    }
-    joined(INVALID_CREDENTIALS, 0)
+    let Some(held) = credentials_of(values) else {
+        return joined(INVALID_CREDENTIALS, 0);
+    };
+    answered(sheet_writer::write_sheet(held, sheet).map_err(u8::from))
 }
 
 // Reads an attribute: 60 where it cannot be read, 28 where values is shorter than four, and in both cases values stays; else 4, and the
@@ -86,15 +67,10 @@ pub extern "C" fn urrezkalu_write_sheet(values: &[u64], sheet: &mut [u8]) -> u64
 pub extern "C" fn urrezkalu_read_attribute(attribute: &[u8], values: &mut [u64]) -> u64
     ensures { (result ≡ file_number (reading attribute.now) (length values.old)) × (values.new ≡ file_given (reading attribute.now) values.old) }
 {
-    let answer = attribute::read(attribute);
-    let Reading::File(file) = answer else {
-        return joined(attribute::reading_code(answer), 0);
-    };
-    if values.len() < FILE_VALUES {
-        return joined(NO_ROOM, 0);
+    match attribute::read(attribute) {
+        Ok(file) => give(values, &file_values(file)),
+        Err(error) => joined(u8::from(error), 0),
     }
-    put_file(values, file);
-    joined(DONE, FILE_VALUES as u32)
 }
 
 // Writes two sets and an effective bit as a version 2 attribute at the front of the buffer: 22 where a set has a bit above 40 or the effective bit is
@@ -106,13 +82,12 @@ pub extern "C" fn urrezkalu_write_attribute(
     effective: u64,
     attribute: &mut [u8],
 ) -> u64
-    ensures { (result ≡ written_number (bit_written permitted inheritable effective (length attribute.old))) × (attribute.new ≡ bit_buffer permitted inheritable effective attribute.old) }
+    ensures { (result ≡ answered write_code (bit_written permitted inheritable effective (length attribute.old))) × (attribute.new ≡ bit_buffer permitted inheritable effective attribute.old) }
 {
-    if effective <= 1 {
-        let written = attribute::write(permitted, inheritable, effective == 1, attribute);
-        return joined(written.code, written.length);
+    if 1 < effective {
+        return joined(u8::from(WriteError::OutOfRange), 0);
     }
-    joined(INVALID_ARGUMENT, 0)
+    answered(attribute::write(permitted, inheritable, effective == 1, attribute).map_err(u8::from))
 }
 
 // Reads a text in names: 70 with the place at which it is malformed, 28 where values is shorter than three, and in both cases values stays; else
@@ -122,8 +97,8 @@ pub extern "C" fn urrezkalu_read_names(text: &[u8], values: &mut [u64]) -> u64
     ensures { (result ≡ names_number (read_text text.now) (length values.old)) × (values.new ≡ names_given (read_text text.now) values.old) }
 {
     match names_reader::read_names(text) {
-        names::Reading::Malformed(place) => joined(MALFORMED, low_place(place)),
-        names::Reading::Means(held) => give_names(values, held),
+        Ok(held) => give(values, &[held.permitted, held.inheritable, held.effective]),
+        Err(names::ReadError::Malformed(place)) => joined(MALFORMED, low_place(place)),
     }
 }
 
@@ -136,15 +111,14 @@ pub extern "C" fn urrezkalu_write_names(
     effective: u64,
     text: &mut [u8],
 ) -> u64
-    ensures { (result ≡ written_number (names_answer (named_sets permitted inheritable effective) (length text.old))) × (text.new ≡ names_buffer (named_sets permitted inheritable effective) text.old) }
+    ensures { (result ≡ answered write_code (names_answer (named_sets permitted inheritable effective) (length text.old))) × (text.new ≡ names_buffer (named_sets permitted inheritable effective) text.old) }
 {
     let held = names::Sets {
         permitted,
         inheritable,
         effective,
     };
-    let written = names_writer::write_names(held, text);
-    joined(written.code, written.length)
+    answered(names_writer::write_names(held, text).map_err(u8::from))
 }
 
 // Lays a status text beside the credentials that a sheet predicts, and writes what differs at the front of the buffer: 70 with the line of the status text's
@@ -155,47 +129,68 @@ pub extern "C" fn urrezkalu_compare_status(status: &[u8], sheet: &[u8], list: &m
     ensures { (result ≡ status_number (read_status status.now) (read_sheet sheet.now) (length list.old)) × (list.new ≡ status_list (read_status status.now) (read_sheet sheet.now) list.old) }
 {
     match status_reader::read_status(status) {
-        status::Reading::Malformed(line) => joined(MALFORMED, low_place(line)),
-        status::Reading::Shows(found) => beside_sheet(found, sheet, list),
+        Err(status::ReadError::Malformed(line)) => joined(MALFORMED, low_place(line)),
+        Ok(found) => beside_sheet(found, sheet, list),
     }
 }
 
 // What was found in a status text, laid beside the credentials of a sheet.
 fn beside_sheet(found: Status, sheet: &[u8], list: &mut [u8]) -> u64
-    ensures { (result ≡ status_number (Shows found) (read_sheet sheet.now) (length list.old)) × (list.new ≡ status_list (Shows found) (read_sheet sheet.now) list.old) }
+    ensures { (result ≡ status_number (Ok found) (read_sheet sheet.now) (length list.old)) × (list.new ≡ status_list (Ok found) (read_sheet sheet.now) list.old) }
 {
     match sheet_reader::read_sheet(sheet) {
-        SheetReading::Malformed(_) => joined(MALFORMED, 0),
-        SheetReading::Invalid => joined(INVALID_CREDENTIALS, 0),
-        SheetReading::Sheet(predicted) => {
-            let laid = status_comparison::lay_beside(found, predicted, list);
-            joined(laid.code, laid.length)
+        Err(SheetError::Malformed(_)) => joined(MALFORMED, 0),
+        Err(SheetError::Invalid) => joined(INVALID_CREDENTIALS, 0),
+        Ok(predicted) => {
+            match status_comparison::lay_beside(found, predicted, list) {
+                Ok(length) => joined(DONE, length),
+                Err(refusal) => joined(u8::from(refusal), 0),
+            }
         }
     }
 }
 
-// The number of a code and a line, a place, a length or a count.
+// The number of what was written, or of a refusal's code.
+fn answered(answer: Result<u32, u8>) -> u64
+    ensures { result ≡ answered (λ code. code) answer }
+{
+    match answer {
+        Ok(length) => joined(DONE, length),
+        Err(code) => joined(code, 0),
+    }
+}
+
+// The number of a code and a line, a place, a length or a count. (`format::c_number` is that of a runner's answer; here a place or a count stands there too.)
+#[tactic(auto, unfolding(crate::specs::Interface::joined))]
 fn joined(code: u8, low: u32) -> u64
     ensures { result ≡ joined code low }
 {
-    code as u64 * CODE + low as u64
+    u64::from(code) * CODE + u64::from(low)
 }
 
-// Whether numbers are the values of credentials, valid or not.
-fn are_values(values: &[u64]) -> bool
-    ensures { result ≡ are_values values.now }
+// Numbers at the front of values: 28 where there is no room for them, else how many they are.
+fn give(values: &mut [u64], numbers: &[u64]) -> u64
+    requires { length numbers.now < 4294967296 }
+    ensures { (result ≡ given_number numbers.now (length values.old)) × (values.new ≡ given_in numbers.now values.old) }
 {
-    if values.len() == SHEET_VALUES {
-        return values[14] <= 1;
+    let n = numbers.len();
+    if values.len() < n {
+        return joined(NO_ROOM, 0);
     }
-    false
+    values[..n].copy_from_slice(numbers);
+    joined(DONE, n as u32)
 }
 
-// The credentials of a sheet's values.
-fn credentials_of(values: &[u64]) -> Credentials
-    requires { length values.now ≡ 15 }
-    ensures { result ≡ credentials_of values.now }
+// The credentials, valid or not, whose values numbers are: none where there are not fifteen of them, or the last is neither 0 nor 1.
+fn credentials_of(values: &[u64]) -> Option<Credentials>
+    ensures { result ≡ given_credentials values.now }
 {
+    if values.len() != SHEET_VALUES {
+        return None;
+    }
+    if 1 < values[14] {
+        return None;
+    }
     let uids = Ids {
         real: values[0],
         effective: values[1],
@@ -215,67 +210,54 @@ fn credentials_of(values: &[u64]) -> Credentials
         bounding: values[11],
         ambient: values[12],
     };
-    Credentials {
+    Some(Credentials {
         uids,
         gids,
         sets,
         securebits: values[13],
         nnp: values[14] == 1,
-    }
+    })
 }
 
-// The values of a sheet's lines, at the front of values.
-fn put_credentials(values: &mut [u64], held: Credentials)
-    requires { 15 ≤ length values.old }
-    ensures { values.new ≡ sheet_values held ++ drop 15 values.old }
+// The values of a sheet's lines.
+fn values_of(held: Credentials) -> [u64; SHEET_VALUES]
+    ensures { result ≡ sheet_values held }
 {
-    values[0] = held.uids.real;
-    values[1] = held.uids.effective;
-    values[2] = held.uids.saved;
-    values[3] = held.uids.filesystem;
-    values[4] = held.gids.real;
-    values[5] = held.gids.effective;
-    values[6] = held.gids.saved;
-    values[7] = held.gids.filesystem;
-    values[8] = held.sets.permitted;
-    values[9] = held.sets.inheritable;
-    values[10] = held.sets.effective;
-    values[11] = held.sets.bounding;
-    values[12] = held.sets.ambient;
-    values[13] = held.securebits;
-    values[14] = held.nnp as u64;
+    [
+        held.uids.real,
+        held.uids.effective,
+        held.uids.saved,
+        held.uids.filesystem,
+        held.gids.real,
+        held.gids.effective,
+        held.gids.saved,
+        held.gids.filesystem,
+        held.sets.permitted,
+        held.sets.inheritable,
+        held.sets.effective,
+        held.sets.bounding,
+        held.sets.ambient,
+        held.securebits,
+        u64::from(held.nnp),
+    ]
 }
 
-// A file's capabilities as numbers, at the front of values.
-fn put_file(values: &mut [u64], file: FileCapabilities)
-    requires { 4 ≤ length values.old }
-    ensures { values.new ≡ file_values file ++ drop 4 values.old }
+// A file's capabilities as numbers.
+fn file_values(file: FileCapabilities) -> [u64; 4]
+    ensures { result ≡ file_values file }
 {
-    values[0] = file.attached as u64;
-    values[1] = file.permitted;
-    values[2] = file.inheritable;
-    values[3] = file.effective as u64;
-}
-
-// Three sets as numbers, at the front of values: 28 where there is no room for them, else how many they are.
-fn give_names(values: &mut [u64], held: names::Sets) -> u64
-    ensures { (result ≡ given_number (named_values held) (length values.old)) × (values.new ≡ given_in (named_values held) values.old) }
-{
-    if values.len() < NAMED_VALUES {
-        return joined(NO_ROOM, 0);
-    }
-    values[0] = held.permitted;
-    values[1] = held.inheritable;
-    values[2] = held.effective;
-    joined(DONE, NAMED_VALUES as u32)
+    [
+        u64::from(file.attached),
+        file.permitted,
+        file.inheritable,
+        u64::from(file.effective),
+    ]
 }
 
 // A place or a line as the number has it: the largest that it has room for, where it has none for the place.
+#[tactic(auto, unfolding(crate::specs::Interface::low_place))]
 fn low_place(place: usize) -> u32
     ensures { result ≡ low_place place }
 {
-    if place < LARGEST_PLACE {
-        return place as u32;
-    }
-    LARGEST_PLACE as u32
+    u32::try_from(place).unwrap_or(u32::MAX)
 }

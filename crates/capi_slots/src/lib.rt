@@ -8,18 +8,11 @@ ghost use Rattle.std.specs.Prelude.{◌≡◌, length};
 ghost use Rattle.format.specs.Report.{outcome, buffer, c_number};
 ghost use Rattle.slot_format.specs.SlotReport.{slot_verdict};
 
-// The place of the code in the number.
-const CODE: u64 = 0x1_0000_0000;
-
 // Runs the slot plan and writes its report at the front of the buffer: the code times 4294967296, plus the line of a fault (70) or the report's length
 // (0). A slot plan that is refused leaves the buffer as it was.
 #[unsafe(no_mangle)]
 pub extern "C" fn urrezkalu_run_slot_plan(plan: &[u8], report: &mut [u8]) -> u64
     ensures { (result ≡ c_number (outcome (slot_verdict plan.now) (length report.old))) × (report.new ≡ buffer (slot_verdict plan.now) report.old) }
 {
-    let ran = plan::run_slot_plan(plan, report);
-    let code = ran.code as u64;
-    let line = ran.line as u64;
-    let length = ran.length as u64;
-    code * CODE + (line + length)
+    format::c_number(plan::run_slot_plan(plan, report))
 }

@@ -1,9 +1,8 @@
 // The codes that come back, as the paper's table "What comes back" numbers them; the other crates have each from here.
 //
-// A code has 8 bits. The crate assumes nothing.
+// They are numbers and no enum, since reports and the C interface carry numbers: where something is refused it is an enum, and `u8::from` gives the
+// number. A code has 8 bits. The crate assumes nothing.
 #![tactic(auto)]
-
-ghost use Rattle.std.specs.Prelude.{◌≡◌, ◌<◌};
 
 // Done.
 pub const DONE: u8 = 0;
@@ -31,10 +30,3 @@ pub const MALFORMED: u8 = 70;
 
 // The credentials given are not valid.
 pub const INVALID_CREDENTIALS: u8 = 72;
-
-// A code, or any other byte, as a number of 64 bits.
-pub fn wide(byte: u8) -> u64
-    ensures { (result ≡ byte) × (result < 256) }
-{
-    byte as u64
-}

@@ -9,7 +9,8 @@ mod validity;
 
 pub use validity::{LARGEST_ID, LARGEST_SECUREBITS, is_valid};
 
-// What stands for no ID: an ID call leaves the one that it would set, or only asks.
+// What stands for no ID: an ID call leaves the one that it would set, or only asks. It is the paper's number, in operands and in the definitions alike, and
+// so no Option.
 pub const NO_ID: u64 = 4294967295;
 
 // Four user IDs, or four group IDs.

@@ -1,4 +1,6 @@
 // The securebits and their locks by the names of linux/securebits.h.
+#![tactic(auto, unfolding(crate::specs::Securebits::header))]
+
 ghost use Rattle.std.specs.Prelude.{◌≡◌};
 ghost use Rattle.credentials.specs.Securebits.{header};
 

@@ -1,4 +1,6 @@
 // Which credentials are valid.
+#![tactic(auto, unfolding(crate::specs::Validity::valid))]
+
 ghost use Rattle.std.specs.Prelude.{◌≡◌};
 ghost use Rattle.credentials.specs.Validity.{ambient_held, ids_in_range, no_bit_above40, valid};
 

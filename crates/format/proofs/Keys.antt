@@ -3,25 +3,10 @@ use native.Mathlib.Omega.{arith}
 use mathlib.Core.Path.{◌≡◌, refl}
 use mathlib.Core.List.{List, [], ◌∷◌}
 use mathlib.Core.Bool.{Bool, true, false, cond}
-use Prim.Native.Nat.{ℕ, ◌+◌, ◌<◌, ◌≤◌}
-use native.Mathlib.Numerals.{add-one}
+use Prim.Native.Nat.{ℕ}
 use lib.Dec.{eqb}
-use lib.ListN.{length, get_or, drop, drop_of_length-le}
-use lib.Seq.{drop-cons}
+use lib.ListN.{length, drop}
 use Rattle.format.specs.Line.{Read, fault, starts_with, after_key}
-
--- ---- at a position
-
-pub starts_step : (key text : List ℕ) (k i j : ℕ) → k < length key → i < length text → j ≡ i + 1
-    → starts_with (drop k key) (drop i text) ≡ cond (eqb (get_or text i 0) (get_or key k 0)) (starts_with (drop (k + 1) key) (drop j text)) false
-unfolding starts_with
-starts_step key text k i j h g e = rw (drop-cons key k 0 h, drop-cons text i 0 g, e, add-one i, add-one k)
-
-pub starts_end : (key t : List ℕ) (k : ℕ) → length key ≤ k → starts_with (drop k key) t ≡ true
-unfolding starts_with
-starts_end key t k h = rw (drop_of_length-le key h)
-
--- ---- and what is read after the key
 
 both_true : (s x : Bool) → cond s x false ≡ true → (s ≡ true) × (x ≡ true)
 both_true true x h = (refl, h)

@@ -9,15 +9,15 @@ use lib.ListN.{length, take, drop, length-append, take-append-drop}
 use lib.Seq.{length-take-le, take_all}
 use Rattle.credentials.specs.Validity.{valid}
 use Rattle.credentials.specs.declared.Credentials.{Credentials}
-use Rattle.rules.specs.declared.Answer.{Answer}
-use Rattle.rules.specs.declared.Answer.TheVariants.{Done, NotPermitted, InvalidArgument, UnreadableAttribute, InvalidCredentials}
+use Rattle.rules.specs.declared.Refusal.TheVariants.{NotPermitted, InvalidArgument, UnreadableAttribute, InvalidCredentials}
 use Rattle.rules.specs.declared.Cause.{Cause}
 use Rattle.rules.specs.declared.Cause.TheVariants.{CapabilityNotEffective, InheritableBeyondPermitted, InheritableBeyondBounding, PermittedGrows, EffectiveBeyondPermitted, NotInPermittedAndInheritable, AmbientRaiseForbidden, LockUndone, LockedFlagChanged, IdNotAllowed, LaunchFallsShort}
-use Rattle.rules.specs.Answers.{cause, cause_number, code, value}
+use Rattle.rules.specs.Answers.{Answer, cause, cause_number, code, value}
 use Rattle.rules.specs.Call.{answer}
 use Rattle.rules.specs.Run.{Step, result, run, left}
 use Rattle.rules.proofs.Demand3.{demand_3}
-use Rattle.format.specs.declared.SheetReading.TheVariants.{Sheet, Malformed}
+use Rattle.format.specs.declared.SheetError.TheVariants.{Malformed}
+use Rattle.std.proofs.Common.{Ok, Err}
 use Rattle.format.specs.Line.{decimal_text, lines_text, Read, read, fault_at, read_lines}
 use Rattle.format.specs.Sheet.{sheet_kinds, sheet_text, credentials_of, read_front, whole_sheet, read_sheet}
 use Rattle.format.specs.Step.{step_kinds, attribute_key, attribute_text, step_text, read_attribute, step_of, read_step}
@@ -31,6 +31,7 @@ use Rattle.format.proofs.Lengths.{at_most, most_lines, length_lines, length_resu
 use Rattle.format.proofs.Plans.{most_sheet, length_sheet, length_by, length_judged, plan_alike}
 use Rattle.format.proofs.Sheets as Sheets
 use Rattle.format.proofs.Steps as Steps
+use Rattle.std.specs.Prelude.{Ok, Err}
 use Rattle.format.proofs.RoundTrip.{sheet_round_trip, plan_round_trip}
 use Rattle.format.proofs.Reached.{start, sheet, sheet_read, sheet_length, plan, text, text_read, text_length, text_verdict, report_length}
 
@@ -76,11 +77,11 @@ cause_small LaunchFallsShort = omega arith
 
 -- a code of two digits has cause 0, and a cause of two digits has code 1
 pub three_digits : (a : Answer) → length (decimal_text (code a)) + length (decimal_text (cause a)) ≤ 3
-three_digits (Done v c) = omega (arith, at_most 0 0 (omega arith))
-three_digits (NotPermitted why) = omega (arith, at_most 0 1 (omega arith), at_most 1 (cause_number why) (omega (arith, cause_small why)))
-three_digits InvalidArgument = omega (arith, at_most 1 22 (omega arith), at_most 0 0 (omega arith))
-three_digits UnreadableAttribute = omega (arith, at_most 1 60 (omega arith), at_most 0 0 (omega arith))
-three_digits InvalidCredentials = omega (arith, at_most 1 72 (omega arith), at_most 0 0 (omega arith))
+three_digits (Ok d) = omega (arith, at_most 0 0 (omega arith))
+three_digits (Err (NotPermitted why)) = omega (arith, at_most 0 1 (omega arith), at_most 1 (cause_number why) (omega (arith, cause_small why)))
+three_digits (Err InvalidArgument) = omega (arith, at_most 1 22 (omega arith), at_most 0 0 (omega arith))
+three_digits (Err UnreadableAttribute) = omega (arith, at_most 1 60 (omega arith), at_most 0 0 (omega arith))
+three_digits (Err InvalidCredentials) = omega (arith, at_most 1 72 (omega arith), at_most 0 0 (omega arith))
 
 -- 36 bytes without the digits of code and cause
 length_result : (start : Credentials) (x : Step) → length (result_text (result start x)) ≤ 39
@@ -160,13 +161,13 @@ whole_alike more (read c []) (read d u) h = absurd (omega (arith, h.2))
 whole_alike more (read c (b ∷ t)) (read d u) h = sym (ap (λ (x : List ℕ). whole_sheet (read d x)) h.1)
 whole_alike more (read c t) (fault_at line) h = absurd h
 whole_alike more (fault_at line) (read d u) h = absurd h
-whole_alike more (fault_at line) (fault_at other) h = ap Malformed h
+whole_alike more (fault_at line) (fault_at other) h = ap (λ n. Err (Malformed n)) h
 
 sheet_cut : (text : List ℕ) → read_sheet (take 285 text) ≡ read_sheet text
 unfolding read_sheet
 sheet_cut = cut_at read_sheet 285 (λ u more h. whole_alike more (read_front u) (read_front (u ++ more)) (front_alike u more h))
 
-length_read : (text : List ℕ) (c : Credentials) → read_sheet text ≡ Sheet c → length text ≤ longest_sheet
+length_read : (text : List ℕ) (c : Credentials) → read_sheet text ≡ Ok c → length text ≤ longest_sheet
 length_read text c e =
     let r = sheet_round_trip.read_written text c e in
     omega (arith, ap length r.0, length_sheet c (Sheets.valid_writable c r.1))

@@ -9,7 +9,7 @@ use Rattle.credentials.specs.declared.Credentials.{Credentials}
 use Rattle.rules.specs.Decoding.{decode}
 use Rattle.rules.specs.Call.{answer}
 use Rattle.rules.specs.Run.{Step, result, run, last_of, left}
-use Rattle.format.specs.declared.SheetReading.TheVariants.{Sheet}
+use Rattle.std.proofs.Common.{Ok}
 use Rattle.format.specs.Line.{bytes, read, hex_text, decimal_of, decimal_text, keyed_text, lines_text, read_hex, read_digits, read_decimal, after_key, read_lines}
 use Rattle.format.specs.Sheet.{id_kinds, uid_kinds, gid_kinds, set_kinds, flag_kinds, sheet_kinds, sheet_text, read_front, read_sheet}
 use Rattle.format.specs.Step.{step_kinds, read_pairs, read_step}
@@ -53,7 +53,7 @@ text =
     (bytes "call=99\na=0000000000000000\nb=0000000000000000\nc=0000000000000000\n"
     ++ bytes "attr=000000000000000000000000000000000000000000000000\n")
 
-pub sheet_read : read_sheet sheet ≡ Sheet start
+pub sheet_read : read_sheet sheet ≡ Ok start
 unfolding valid read_hex read_digits read_decimal after_key read_lines id_kinds uid_kinds gid_kinds set_kinds flag_kinds sheet_kinds read_front read_sheet
 sheet_read = refl
 

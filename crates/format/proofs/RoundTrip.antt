@@ -6,7 +6,8 @@ use Prim.Native.Nat.{ℕ}
 use native.Mathlib.Omega.{arith}
 use Rattle.credentials.specs.Validity.{valid}
 use Rattle.credentials.specs.declared.Credentials.{Credentials}
-use Rattle.format.specs.declared.SheetReading.TheVariants.{Sheet, Invalid}
+use Rattle.std.proofs.Common.{Ok, Err}
+use Rattle.format.specs.declared.SheetError.TheVariants.{Invalid}
 use Rattle.format.specs.Line.{Read, read, fault_at}
 use Rattle.format.specs.Sheet.{sheet_text, read_front, whole_sheet, read_sheet}
 use Rattle.format.specs.Step.{step_text, read_step}
@@ -18,18 +19,18 @@ use Rattle.format.proofs.Steps.{step_read, step_written, no_step}
 
 -- ---- sheets
 
-sheet_read : (c : Credentials) → valid c ≡ true → read_sheet (sheet_text c) ≡ Sheet c
+sheet_read : (c : Credentials) → valid c ≡ true → read_sheet (sheet_text c) ≡ Ok c
 unfolding read_sheet
 sheet_read c h =
     ap (λ (t : List ℕ). whole_sheet (read_front t)) (sym (append-nil (sheet_text c)))
     ∙ ap whole_sheet (front_read c [] (valid_writable c h))
-    ∙ ap (λ (b : Bool). cond b (Sheet c) Invalid) h
+    ∙ ap (λ (b : Bool). cond b (Ok c) (Err Invalid)) h
 
-valid_told : (d c : Credentials) (b : Bool) → valid d ≡ b → cond b (Sheet d) Invalid ≡ Sheet c → (d ≡ c) × (valid d ≡ true)
+valid_told : (d c : Credentials) (b : Bool) → valid d ≡ b → cond b (Ok d) (Err Invalid) ≡ Ok c → (d ≡ c) × (valid d ≡ true)
 valid_told d c true h e = (cc, h)
 valid_told d c false h e = let z : ◌≡◌ {A = ℕ} 0 1 = cc in absurd (omega arith)
 
-whole_told : (text : List ℕ) (c : Credentials) (r : Read Credentials) → read_front text ≡ r → whole_sheet r ≡ Sheet c
+whole_told : (text : List ℕ) (c : Credentials) (r : Read Credentials) → read_front text ≡ r → whole_sheet r ≡ Ok c
     → (text ≡ sheet_text c) × (valid c ≡ true)
 whole_told text c (read d []) q e =
     let v = valid_told d c (valid d) refl e in
@@ -38,7 +39,7 @@ whole_told text c (read d []) q e =
 whole_told text c (read d (b ∷ t)) q e = let z : ◌≡◌ {A = ℕ} 0 1 = cc in absurd (omega arith)
 whole_told text c (fault_at line) q e = let z : ◌≡◌ {A = ℕ} 0 1 = cc in absurd (omega arith)
 
-sheet_written : (text : List ℕ) (c : Credentials) → read_sheet text ≡ Sheet c → (text ≡ sheet_text c) × (valid c ≡ true)
+sheet_written : (text : List ℕ) (c : Credentials) → read_sheet text ≡ Ok c → (text ≡ sheet_text c) × (valid c ≡ true)
 unfolding read_sheet
 sheet_written text c e = whole_told text c (read_front text) refl e
 

@@ -1,7 +1,6 @@
 -- How long sheets, plans and reports can be; proofs/Longest.antt proves it. Assumes nothing.
-use Rattle.std.specs.Prelude.{ℕ, ◌+◌, ◌≤◌, ◌≡◌, List, length, take}
+use Rattle.std.specs.Prelude.{ℕ, ◌+◌, ◌≤◌, ◌≡◌, List, length, take, Ok}
 use Rattle.credentials.specs.declared.Credentials.{Credentials}
-use Rattle.format.specs.declared.SheetReading.TheVariants.{Sheet}
 use Rattle.format.specs.Line.{read}
 use Rattle.format.specs.Sheet.{read_sheet}
 use Rattle.format.specs.Plan.{Plan, read_plan}
@@ -21,8 +20,8 @@ longest_report = 10268
 
 pub record Longest : Type 0 where
   -- a text that is read as a sheet has at most so many bytes, and some sheet has as many
-  pub sheets : (text : List ℕ) (c : Credentials) → read_sheet text ≡ Sheet c → length text ≤ longest_sheet
-  pub a_longest_sheet : (text : List ℕ) × (c : Credentials) × (read_sheet text ≡ Sheet c) × (length text ≡ longest_sheet)
+  pub sheets : (text : List ℕ) (c : Credentials) → read_sheet text ≡ Ok c → length text ≤ longest_sheet
+  pub a_longest_sheet : (text : List ℕ) × (c : Credentials) × (read_sheet text ≡ Ok c) × (length text ≡ longest_sheet)
   -- what stands after one byte more than a longest sheet has decides nothing for the sheet reader
   pub sheet_cut : (text : List ℕ) → read_sheet (take (longest_sheet + 1) text) ≡ read_sheet text
   -- a text that is read as a plan has at most so many bytes, and some text has as many

@@ -1,8 +1,10 @@
 -- The report ("Sheet, plan and report"), and what the plan runner answers ("What comes back"). Assumes nothing.
-use Rattle.std.specs.Prelude.{ℕ, ◌+◌, ◌*◌, List, [], ◌∷◌, ◌++◌, cond, leb, length, drop}
+use Rattle.std.specs.Prelude.{ℕ, ◌+◌, ◌*◌, List, [], ◌∷◌, ◌++◌, cond, leb, length, drop, Ok, Err}
+use Rattle.std.specs.Prelude.{Result as Answer}
 use Rattle.credentials.specs.Validity.{valid}
 use Rattle.rules.specs.Run.{Result, run, left}
-use Rattle.format.specs.declared.Outcome.{Outcome}
+use Rattle.format.specs.declared.PlanError.{PlanError}
+use Rattle.format.specs.declared.PlanError.TheVariants.{Malformed, Invalid, NoRoom}
 use Rattle.format.specs.Line.{Kind, kind, decimal, hex, lines_text, Read, read, fault_at}
 use Rattle.format.specs.Sheet.{sheet_text}
 use Rattle.format.specs.Plan.{PlanOf, Plan, read_plan}
@@ -37,12 +39,22 @@ judged_by text (fault_at line) = malformed line
 unfoldable pub verdict : List ℕ → Verdict
 verdict text = judged_by report_text (read_plan text)
 
--- the runner's code, line and report length, with a buffer of some length: 28 comes last
-abbrev pub outcome : Verdict → ℕ → Outcome
-outcome (report t) room =
-    cond (leb (length t) room) (record { code = 0; line = 0; length = length t }) (record { code = 28; line = 0; length = 0 })
-outcome (malformed line) room = record { code = 70; line = line; length = 0 }
-outcome invalid room = record { code = 72; line = 0; length = 0 }
+-- what the runner answers, with a buffer of some length: the report's length, or why the plan is refused; 28 comes last
+abbrev pub outcome : Verdict → ℕ → Answer ℕ PlanError
+outcome (report t) room = cond (leb (length t) room) (Ok (length t)) (Err NoRoom)
+outcome (malformed line) room = Err (Malformed line)
+outcome invalid room = Err Invalid
+
+-- the number of each refusal, and its line, 0 but for 70
+abbrev pub plan_code : PlanError → ℕ
+plan_code (Malformed line) = 70
+plan_code Invalid = 72
+plan_code NoRoom = 28
+
+abbrev pub plan_line : PlanError → ℕ
+plan_line (Malformed line) = line
+plan_line Invalid = 0
+plan_line NoRoom = 0
 
 -- the buffer afterwards: the report and past it what was there; where the plan is refused, as it was
 abbrev pub buffer : Verdict → List ℕ → List ℕ
@@ -50,6 +62,7 @@ buffer (report t) old = cond (leb (length t) (length old)) (t ++ drop (length t)
 buffer (malformed line) old = old
 buffer invalid old = old
 
--- the C interface's number: code times 4294967296, and line or length, of which one is 0
-abbrev pub c_number : Outcome → ℕ
-c_number o = o.code * 4294967296 + (o.line + o.length)
+-- the C interface's number: the report's length, or the code times 4294967296, plus the line
+abbrev pub c_number : Answer ℕ PlanError → ℕ
+c_number (Ok size) = size
+c_number (Err e) = plan_code e * 4294967296 + plan_line e

@@ -1,11 +1,10 @@
 -- Written and read, each from the other: the statements, which proofs/RoundTrip.antt proves. Assumes nothing.
-use Rattle.std.specs.Prelude.{ℕ, ◌<◌, ◌≤◌, ◌^◌, ◌≡◌, true, List, [], ◌∷◌, ◌++◌, length}
+use Rattle.std.specs.Prelude.{ℕ, ◌<◌, ◌≤◌, ◌^◌, ◌≡◌, true, List, [], ◌∷◌, ◌++◌, length, Ok}
 use Rattle.attribute.specs.Words.{Bytes}
 use Rattle.credentials.specs.Validity.{valid}
 use Rattle.credentials.specs.declared.Ids.{Ids}
 use Rattle.credentials.specs.declared.Credentials.{Credentials}
 use Rattle.rules.specs.Run.{Step}
-use Rattle.format.specs.declared.SheetReading.TheVariants.{Sheet}
 use Rattle.format.specs.Line.{read}
 use Rattle.format.specs.Sheet.{sheet_text, read_sheet}
 use Rattle.format.specs.Step.{step_text, read_step}
@@ -14,9 +13,9 @@ use Rattle.format.specs.Plan.{PlanOf, Plan, plan_text, read_plan}
 -- sheets
 pub record SheetRoundTrip : Type 0 where
   -- reading the sheet written for valid credentials gives them back
-  pub written_read : (c : Credentials) → valid c ≡ true → read_sheet (sheet_text c) ≡ Sheet c
+  pub written_read : (c : Credentials) → valid c ≡ true → read_sheet (sheet_text c) ≡ Ok c
   -- a text that is read as credentials is the sheet written for them, and they are valid
-  pub read_written : (text : List ℕ) (c : Credentials) → read_sheet text ≡ Sheet c → (text ≡ sheet_text c) × (valid c ≡ true)
+  pub read_written : (text : List ℕ) (c : Credentials) → read_sheet text ≡ Ok c → (text ≡ sheet_text c) × (valid c ≡ true)
 
 -- what a step can hold: a number up to 99, operands of 64 bits, at most 24 attribute bytes
 pub record Writable (s : Step) : Type 0 where

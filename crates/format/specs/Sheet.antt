@@ -1,14 +1,15 @@
 -- The credential sheet ("Sheet, plan and report"), and what its reader and its writer answer ("What comes back"). Assumes nothing.
-use Rattle.std.specs.Prelude.{ℕ, ◌+◌, List, [], ◌∷◌, ◌++◌, Bool, cond, ◌&&◌, leb, eqb, length, get_or, drop}
+use Rattle.std.specs.Prelude.{ℕ, ◌+◌, List, [], ◌∷◌, ◌++◌, Bool, cond, ◌&&◌, leb, eqb, length, get_or, drop, Result, Ok, Err}
 use Prim.Native.String.{String}
-use Rattle.attribute.specs.declared.Written.{Written}
 use Rattle.credentials.specs.Validity.{valid}
 use Rattle.credentials.specs.declared.Ids.{Ids}
 use Rattle.credentials.specs.declared.Sets.{Sets}
 use Rattle.credentials.specs.declared.Credentials.{Credentials}
 use Rattle.rules.specs.Fields.{number}
-use Rattle.format.specs.declared.SheetReading.{SheetReading}
-use Rattle.format.specs.declared.SheetReading.TheVariants.{Sheet, Malformed, Invalid}
+use Rattle.format.specs.declared.SheetError.{SheetError}
+use Rattle.format.specs.declared.SheetError.TheVariants.{Malformed, Invalid}
+use Rattle.format.specs.declared.SheetWriteError.{SheetWriteError}
+use Rattle.format.specs.declared.SheetWriteError.TheVariants as unwritten
 use Rattle.format.specs.Line.{bytes, Kind, kind, decimal, hex, lines_text, Read, read, fault_at, mapped, read_lines}
 
 -- an ID's line: decimal up to 4294967295; the letter in its key is that of users or of groups
@@ -82,34 +83,41 @@ unfoldable pub read_front : List ℕ → Read Credentials
 read_front t = mapped credentials_of (read_lines sheet_kinds t)
 
 -- text past the sheet is a fault at the next line; then 72 for credentials that are not valid
-abbrev pub whole_sheet : Read Credentials → SheetReading
-whole_sheet (read c []) = cond (valid c) (Sheet c) Invalid
-whole_sheet (read c (b ∷ t)) = Malformed (length sheet_kinds + 1)
-whole_sheet (fault_at line) = Malformed line
+abbrev pub whole_sheet : Read Credentials → Result Credentials SheetError
+whole_sheet (read c []) = cond (valid c) (Ok c) (Err Invalid)
+whole_sheet (read c (b ∷ t)) = Err (Malformed (length sheet_kinds + 1))
+whole_sheet (fault_at line) = Err (Malformed line)
 
 -- the sheet reader's answer
-unfoldable pub read_sheet : List ℕ → SheetReading
+unfoldable pub read_sheet : List ℕ → Result Credentials SheetError
 read_sheet t = whole_sheet (read_front t)
 
--- "What comes back": the number of each case, and its line, 0 but for 70
-abbrev pub sheet_code : SheetReading → ℕ
-sheet_code (Sheet c) = 0
-sheet_code (Malformed line) = 70
-sheet_code Invalid = 72
+-- "What comes back": the number of each refusal
+abbrev pub sheet_read_code : SheetError → ℕ
+sheet_read_code (Malformed line) = 70
+sheet_read_code Invalid = 72
 
-abbrev pub sheet_line : SheetReading → ℕ
-sheet_line (Sheet c) = 0
-sheet_line (Malformed line) = line
-sheet_line Invalid = 0
+-- the number of each case, and its line, 0 but for 70
+abbrev pub sheet_code : Result Credentials SheetError → ℕ
+sheet_code (Ok c) = 0
+sheet_code (Err e) = sheet_read_code e
+
+abbrev pub sheet_line : Result Credentials SheetError → ℕ
+sheet_line (Ok c) = 0
+sheet_line (Err (Malformed line)) = line
+sheet_line (Err Invalid) = 0
 
 -- ---- the sheet writer
 
--- its answer in a buffer of some length: 72, then 28, each with 0 bytes; or 0 and the sheet's length
-unfoldable pub sheet_answer : Credentials → ℕ → Written
+-- the number of each refusal
+abbrev pub sheet_write_code : SheetWriteError → ℕ
+sheet_write_code unwritten.Invalid = 72
+sheet_write_code unwritten.NoRoom = 28
+
+-- its answer in a buffer of some length: not valid, then no room; or the sheet's length
+unfoldable pub sheet_answer : Credentials → ℕ → Result ℕ SheetWriteError
 sheet_answer c room =
-    cond (valid c)
-    (cond (leb (length (sheet_text c)) room) (record { code = 0; length = length (sheet_text c) }) (record { code = 28; length = 0 }))
-    (record { code = 72; length = 0 })
+    cond (valid c) (cond (leb (length (sheet_text c)) room) (Ok (length (sheet_text c))) (Err unwritten.NoRoom)) (Err unwritten.Invalid)
 
 -- the buffer afterwards: the sheet and past it what was there; where it is refused, as it was
 unfoldable pub sheet_buffer : Credentials → List ℕ → List ℕ

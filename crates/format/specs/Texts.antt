@@ -1,10 +1,11 @@
 -- Whole texts and what they come to, where the paper says so: the report of case 2, faults with their lines, answers and buffers.
 -- proofs/Computed.antt proves the statement at the end by computing both sides; host/tests/texts.py runs further texts. Assumes nothing.
-use Rattle.std.specs.Prelude.{ℕ, zero, suc, ◌+◌, ◌*◌, ◌≡◌, false, List, [], ◌∷◌, ◌++◌, replicate}
+use Rattle.std.specs.Prelude.{ℕ, zero, suc, ◌+◌, ◌*◌, ◌≡◌, false, List, [], ◌∷◌, ◌++◌, replicate, Err}
 use Rattle.credentials.specs.declared.Credentials.{Credentials}
-use Rattle.format.specs.declared.SheetReading.TheVariants.{Malformed, Invalid}
+use Rattle.format.specs.declared.SheetError.TheVariants.{Malformed, Invalid}
+use Rattle.format.specs.declared.SheetWriteError.TheVariants as unwritten
 use Rattle.format.specs.Line.{bytes}
-use Rattle.format.specs.Sheet.{read_sheet, sheet_answer, sheet_buffer}
+use Rattle.format.specs.Sheet.{read_sheet, sheet_read_code, sheet_write_code, sheet_answer, sheet_buffer}
 use Rattle.format.specs.Report.{report, malformed, invalid, verdict, outcome, buffer, c_number}
 
 -- ---- parts of the texts
@@ -96,10 +97,13 @@ pub record TextsHold : Type 0 where
   -- 70 comes before 72, wherever in the text the fault is
   pub fault_first : verdict (no_id ++ bytes "call=") ≡ malformed 16
   -- the sheet reader: text past the sheet is a fault at the next line, and that comes before 72
-  pub past_the_sheet : read_sheet (no_id ++ bytes "\n") ≡ Malformed 16
-  pub invalid_sheet : read_sheet no_id ≡ Invalid
+  pub past_the_sheet : read_sheet (no_id ++ bytes "\n") ≡ Err (Malformed 16)
+  pub invalid_sheet : read_sheet no_id ≡ Err Invalid
   -- the sheet writer: 72 comes before 28, and bytes past the sheet stay
-  pub invalid_first : sheet_answer (held 4294967295) 0 ≡ record { code = 72; length = 0 }
+  pub invalid_first : sheet_answer (held 4294967295) 0 ≡ Err unwritten.Invalid
+  -- their numbers, and those of the reader's refusals
+  pub unwritten_told : (sheet_write_code unwritten.Invalid ≡ 72) × (sheet_write_code unwritten.NoRoom ≡ 28)
+  pub unread_told : ((line : ℕ) → sheet_read_code (Malformed line) ≡ 70) × (sheet_read_code Invalid ≡ 72)
   pub written_sheet : sheet_buffer (held 1000) (sevens 238) ≡ start ++ (7 ∷ 7 ∷ [])
   -- the plan runner: bytes past the report stay
   pub written_report : buffer (verdict start) (sevens 238) ≡ start ++ (7 ∷ 7 ∷ [])

@@ -17,6 +17,7 @@ pub fn read_full<R: Read>(reader: &mut R, buffer: &mut [u8]) -> io::Result<usize
     ensures end { IfOk result (λ size. size < length buffer.new → IsAtEnd (R.remaining reader.new)) }
 {
     let mut size = 0;
+    // A `while`: size goes on by as many bytes as a read gave.
     while size < buffer.len() {
         let more = reader.read(&mut buffer[size..])?;
         if more == 0 {

@@ -1,4 +1,4 @@
 pub mod LineLaws
-pub mod Pairs
 pub mod Answers
 pub mod Attributes
+pub mod Pairs

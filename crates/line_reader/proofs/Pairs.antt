@@ -1,103 +1,52 @@
--- Laws of an attribute's line at a position: bytes of two hex digits each. Assumes nothing.
-use Rattle.std.proofs.Common.{◌≡◌, ℕ, zero, suc, ◌+◌, ◌-◌, ◌*◌, ◌<◌, ◌≤◌, true, false, cond, ◌&&◌, eqb, ltb, List, [], ◌∷◌, ◌++◌, length, get_or, take, drop, set, replicate, sym, refl, ap, ◌∙◌, add-one, arith, length-drop, take-append-drop, drop_of_length-le, length-take-le, drop-cons, drop-drop}
-use Rattle.format.specs.Line.{Read, read, fault, newline, starts_with}
-use Rattle.format.proofs.Keys.{key_there, key_missing}
+-- Laws of bytes of two hex digits each, which a text begins with. Assumes nothing.
+use Rattle.std.proofs.Common.{◌≡◌, ℕ, zero, suc, ◌+◌, ◌*◌, false, cond, ◌&&◌, eqb, ltb, List, [], ◌∷◌, ◌++◌, length, refl, add-one, arith}
+use Rattle.format.specs.Line.{read, fault, newline}
 use Rattle.format.specs.Step.{read_pairs}
 use Rattle.hex_tables.specs.Tables.{hex_digit_by, read_pairs_by}
-use Rattle.line_reader.specs.declared.lines.Bytes.{Bytes}
-use Rattle.line_reader.specs.Inside.{placed_bytes, no_bytes, bytes_at}
-use Rattle.line_reader.proofs.LineLaws.{position, key_short}
-
--- ---- one pair of digits
 
 module _ (table : List ℕ) where
-  newline_read : (n : ℕ) (bs t : List ℕ) → read_pairs_by table n bs (newline ∷ t) ≡ read bs t
+  newline_first : (n : ℕ) (bs t : List ℕ) → read_pairs_by table n bs (newline ∷ t) ≡ read bs t
   unfolding read_pairs_by read_pairs
-  newline_read zero bs t = refl
-  newline_read (suc n) bs [] = refl
-  newline_read (suc n) bs (c ∷ t) = refl
+  newline_first zero bs t = refl
+  newline_first (suc n) bs [] = refl
+  newline_first (suc n) bs (c ∷ t) = refl
 
   no_digit_first : (n b : ℕ) (bs t : List ℕ) → eqb b newline ≡ false → ltb (hex_digit_by table b) 16 ≡ false → read_pairs_by table (suc n) bs (b ∷ t) ≡ fault
   unfolding read_pairs_by read_pairs
   no_digit_first n b bs [] e g = rw e
   no_digit_first n b bs (c ∷ t) e g = rw (e, g)
 
-  module _ (i : ℕ) (text : List ℕ) (h : i < length text) where
-    pub pairs_newline : (n : ℕ) (bs : List ℕ) → get_or text i 0 ≡ newline → read_pairs_by table n bs (drop i text) ≡ read bs (drop (i + 1) text)
-    pairs_newline n bs e = rw (drop-cons text i 0 h, e, add-one i) (newline_read n bs (drop (suc i) text))
+  one_digit : (n b : ℕ) (bs t : List ℕ) → eqb b newline ≡ false → length t ≡ 0 → read_pairs_by table (suc n) bs (b ∷ t) ≡ fault
+  unfolding read_pairs_by read_pairs
+  one_digit n b bs [] e g = rw e
+  one_digit n b bs (c ∷ t) e g = absurd (omega arith)
+
+  module _ (n : ℕ) (bs rest : List ℕ) where
+    pub pairs_newline : (t : List ℕ) (b : ℕ) → rest ≡ b ∷ t → b ≡ newline → read_pairs_by table n bs rest ≡ read bs t
+    pairs_newline t b h e = rw (h, e) (newline_first n bs t)
 
     -- there are as many bytes as there can be
-    pub pairs_full : (n : ℕ) (bs : List ℕ) → n ≡ 0 → eqb (get_or text i 0) newline ≡ false → read_pairs_by table n bs (drop i text) ≡ fault
+    pub pairs_full : (t : List ℕ) (b : ℕ) → rest ≡ b ∷ t → n ≡ 0 → eqb b newline ≡ false → read_pairs_by table n bs rest ≡ fault
     unfolding read_pairs_by read_pairs
-    pairs_full n bs e g = rw (e, drop-cons text i 0 h, g)
+    pairs_full t b h e g = rw (e, h, g)
 
-    pub pairs_no_digit : (n m : ℕ) (bs : List ℕ) → n ≡ m + 1 → eqb (get_or text i 0) newline ≡ false → ltb (hex_digit_by table (get_or text i 0)) 16 ≡ false
-        → read_pairs_by table n bs (drop i text) ≡ fault
-    pairs_no_digit n m bs e g k = rw (e, add-one m, drop-cons text i 0 h) (no_digit_first m (get_or text i 0) bs (drop (suc i) text) g k)
+    pub pairs_no_digit : (t : List ℕ) (b m : ℕ) → rest ≡ b ∷ t → n ≡ m + 1 → eqb b newline ≡ false → ltb (hex_digit_by table b) 16 ≡ false
+        → read_pairs_by table n bs rest ≡ fault
+    pairs_no_digit t b m h e g k = rw (e, add-one m, h) (no_digit_first m b bs t g k)
 
     -- the text ends after one digit
-    pub pairs_one : (n m : ℕ) (bs : List ℕ) → n ≡ m + 1 → length text ≤ i + 1 → eqb (get_or text i 0) newline ≡ false → read_pairs_by table n bs (drop i text) ≡ fault
-    unfolding read_pairs_by read_pairs
-    pairs_one n m bs e g k =
-        let p : drop (suc i) text ≡ [] = drop_of_length-le text {i = suc i} (omega (arith, g)) in
-        rw (e, add-one m, drop-cons text i 0 h, p, k)
+    pub pairs_one : (t : List ℕ) (b m : ℕ) → rest ≡ b ∷ t → length t ≡ 0 → n ≡ m + 1 → eqb b newline ≡ false → read_pairs_by table n bs rest ≡ fault
+    pairs_one t b m h k e g = rw (e, add-one m, h) (one_digit m b bs t g k)
 
-    pub pairs_two : (n m j : ℕ) (bs : List ℕ) → n ≡ m + 1 → j ≡ i + 1 → j < length text → eqb (get_or text i 0) newline ≡ false
-        → read_pairs_by table n bs (drop i text)
-        ≡ cond (ltb (hex_digit_by table (get_or text i 0)) 16 && ltb (hex_digit_by table (get_or text j 0)) 16)
-        (read_pairs_by table m (bs ++ ((hex_digit_by table (get_or text i 0) * 16 + hex_digit_by table (get_or text j 0)) ∷ [])) (drop (j + 1) text)) fault
+    pub pairs_two : (more t : List ℕ) (b c m : ℕ) → rest ≡ b ∷ more → more ≡ c ∷ t → n ≡ m + 1 → eqb b newline ≡ false
+        → read_pairs_by table n bs rest
+        ≡ cond (ltb (hex_digit_by table b) 16 && ltb (hex_digit_by table c) 16)
+        (read_pairs_by table m (bs ++ ((hex_digit_by table b * 16 + hex_digit_by table c) ∷ [])) t) fault
     unfolding read_pairs_by read_pairs
-    pairs_two n m j bs e f g k =
-        let q : suc i < length text = omega (arith, f, g) in
-        rw (e, add-one m, f, add-one i, drop-cons text i 0 h, drop-cons text (suc i) 0 q, add-one (suc i), k)
+    pairs_two more t b c m h k e g = rw (e, add-one m, h, k, g)
 
-  pub pairs_end : (i : ℕ) (text : List ℕ) → length text ≤ i → (n : ℕ) (bs : List ℕ) → read_pairs_by table n bs (drop i text) ≡ fault
+  pub pairs_end : (n : ℕ) (bs rest : List ℕ) → length rest ≡ 0 → read_pairs_by table n bs rest ≡ fault
   unfolding read_pairs_by read_pairs
-  pairs_end i text h zero bs = rw (drop_of_length-le text h)
-  pairs_end i text h (suc n) bs = rw (drop_of_length-le text h)
-
--- ---- the array of bytes
-
-drop_set : (l : List ℕ) (n x : ℕ) → drop (suc n) (set l n x) ≡ drop (suc n) l
-drop_set [] n x = refl
-drop_set (y ∷ l) zero x = refl
-drop_set (y ∷ l) (suc n) x = drop_set l n x
-
--- one byte more leaves one zero fewer
-pub zeros_left : (l : List ℕ) (n k m x : ℕ) → k ≡ m + 1 → drop n l ≡ replicate k 0 → drop (n + 1) (set l n x) ≡ replicate m 0
-zeros_left l n k m x e h =
-    let g : drop n l ≡ replicate (suc m) 0 = h ∙ rw (e, add-one m) in
-    let d : drop (suc n) l ≡ drop 1 (drop n l) = rw (← (add-one n)) (sym (drop-drop 1 n l)) in
-    rw (add-one n) (drop_set l n x ∙ d ∙ ap (drop 1) g)
-
--- the bytes at the front of an array that is 0 behind them
-pub attribute_found : (text bytes : List ℕ) (n i : ℕ) → i ≤ length text → n ≤ 24 → length bytes ≡ 24 → drop n bytes ≡ replicate (24 - n) 0
-    → ◌≡◌ {A = Bytes} (record { found = true; next = i; size = n; bytes = bytes }) (placed_bytes text (read (take n bytes) (drop i text)))
-attribute_found text bytes n i h g e z =
-    let s : length (take n bytes) ≡ n = length-take-le n bytes (omega (arith, g, e)) in
-    let b : bytes ≡ take n bytes ++ replicate (24 - n) 0 = sym (take-append-drop n bytes) ∙ ap (λ (r : List ℕ). take n bytes ++ r) z in
-    rw (position text i h, s) (ap (λ (r : List ℕ). record { found = true; next = i; size = n; bytes = r }) b)
-
--- ---- the line
-
-no_pairs : (table u : List ℕ) → length u < 1 → read_pairs_by table 24 [] u ≡ fault
-unfolding read_pairs_by
-no_pairs table [] h = refl
-no_pairs table (b ∷ u) h = absurd (omega arith)
-
-module _ (table key text : List ℕ) (at : ℕ) where
-  abbrev pairs : List ℕ → Read (List ℕ)
-  pairs t = read_pairs_by table 24 [] t
-
-  -- too short for the key
-  pub attribute_short : length text < at + length key → bytes_at key pairs text at ≡ no_bytes
-  unfolding bytes_at
-  attribute_short h = rw (key_short 1 key pairs (drop at text) (no_pairs table) (omega (arith, length-drop at text)))
-
-  pub attribute_missing : starts_with key (drop at text) ≡ false → bytes_at key pairs text at ≡ no_bytes
-  unfolding bytes_at
-  attribute_missing h = rw (key_missing key pairs (drop at text) h)
-
-  pub attribute_there : starts_with key (drop at text) ≡ true → bytes_at key pairs text at ≡ placed_bytes text (pairs (drop (at + length key) text))
-  unfolding bytes_at
-  attribute_there h = ap (placed_bytes text) (key_there key pairs (drop at text) h ∙ ap pairs (drop-drop (length key) at text))
+  pairs_end zero bs [] h = refl
+  pairs_end (suc n) bs [] h = refl
+  pairs_end n bs (b ∷ t) h = absurd (omega arith)

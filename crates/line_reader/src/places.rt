@@ -1,74 +1,63 @@
-// The line at a place: its value and the place past it. After a fault nothing is read.
-ghost use Rattle.std.specs.Prelude.{◌≡◌};
-ghost use Rattle.format.specs.Line.{decimal, hex};
-ghost use Rattle.line_reader.specs.Positions.{number_at, number_by, attribute_by, no_attribute, at_fault, past_line};
-ghost use Rattle.line_reader.specs.Inside.{onward};
+// The line at a place: what it says and the place past it.
+ghost use Rattle.std.specs.Prelude.{◌≡◌, drop};
+ghost use Rattle.format.specs.Line.{decimal};
+ghost use Rattle.line_reader.specs.Positions.{number_at, hex_by, attribute_by, place_read, at_fault, past_line};
+ghost use Rattle.line_reader.specs.Inside.{told};
 
-use crate::lines::{Line, bytes_line, decimal_line, hex_line};
-use crate::{Attribute, Number, Place};
+use crate::lines::{bytes_line, decimal_line, hex_line};
+use crate::{AttributeBytes, Fault, MOST_DIGITS, Place, Read};
 
-// The line of key and 16 hex digits by the table at a place of text.
-pub fn read_hex16(text: &[u8], place: Place, key: &[u8], table: &[u8; 256]) -> Number
-    ensures { result ≡ number_by table.now key.now (hex 16) text.now place }
+// The line of key and N hex digits by the table at a place of text. Of more than 16 digits there is none.
+pub fn read_hex<const N: usize>(
+    text: &[u8],
+    place: Place,
+    key: &[u8],
+    table: &[u8; 256],
+) -> Read<u64>
+    ensures { result ≡ hex_by table.now key.now N text.now place }
 {
-    if place.fault {
-        return Number { value: 0, place };
+    if MOST_DIGITS < N {
+        return Err(at_fault(place));
     }
-    onward(place, hex_line(text, place.at, key, 16, table))
-}
-
-// The line of key and 2 hex digits by the table at a place of text.
-pub fn read_hex2(text: &[u8], place: Place, key: &[u8], table: &[u8; 256]) -> Number
-    ensures { result ≡ number_by table.now key.now (hex 2) text.now place }
-{
-    if place.fault {
-        return Number { value: 0, place };
-    }
-    onward(place, hex_line(text, place.at, key, 2, table))
+    onward(text, place, hex_line(rest(text, place), key, N, table))
 }
 
 // The line of key and a decimal number up to largest at a place of text.
-pub fn read_decimal(text: &[u8], place: Place, key: &[u8], largest: u32) -> Number
+pub fn read_decimal(text: &[u8], place: Place, key: &[u8], largest: u32) -> Read<u64>
     ensures { result ≡ number_at key.now (decimal largest) text.now place }
 {
-    if place.fault {
-        return Number { value: 0, place };
-    }
-    onward(place, decimal_line(text, place.at, key, largest))
+    onward(text, place, decimal_line(rest(text, place), key, largest))
 }
 
 // The line of key and up to 24 bytes, two hex digits each by the table, at a place of text.
-pub fn read_attribute(text: &[u8], place: Place, key: &[u8], table: &[u8; 256]) -> Attribute
+pub fn read_attribute(
+    text: &[u8],
+    place: Place,
+    key: &[u8],
+    table: &[u8; 256],
+) -> Read<AttributeBytes>
     ensures { result ≡ attribute_by table.now key.now text.now place }
 {
-    if place.fault {
-        return no_attribute(place);
-    }
-    let read = bytes_line(text, place.at, key, table);
-    if read.found {
-        let bytes = read.bytes;
-        return Attribute {
-            place: past_line(place, read.next),
-            size: read.size,
-            bytes,
-        };
-    }
-    no_attribute(at_fault(place))
+    onward(text, place, bytes_line(rest(text, place), key, table))
 }
 
-// The place past a line that was read, and its value; or that there is none.
-fn onward(place: Place, line: Line) -> Number
-    ensures { result ≡ onward place line }
+// The text from a place on.
+fn rest(text: &[u8], place: Place) -> &[u8]
+    ensures { result.now ≡ drop place.at text.now }
 {
-    let Line::Is(value, next) = line else {
-        return Number {
-            value: 0,
-            place: at_fault(place),
-        };
-    };
-    Number {
-        value,
-        place: past_line(place, next),
+    &text[place.at.min(text.len())..]
+}
+
+// What the line at place says, with the place past it in place of the text past it; or that there is no such line.
+fn onward<T>(text: &[u8], place: Place, line: Option<(T, &[u8])>) -> Read<T>
+    ensures { result ≡ place_read text.now place (told line.entry) }
+{
+    match line {
+        Some((value, rest)) => Ok((
+            value,
+            past_line(place, text.len().saturating_sub(rest.len())),
+        )),
+        None => Err(at_fault(place)),
     }
 }
 
@@ -78,28 +67,15 @@ fn past_line(place: Place, at: usize) -> Place
 {
     Place {
         at,
-        lines: std::num::wrapping_add_u32(place.lines, 1),
-        fault: false,
+        lines: place.lines.wrapping_add(1),
     }
 }
 
 // The line at place is at fault.
-fn at_fault(place: Place) -> Place
+fn at_fault(place: Place) -> Fault
     ensures { result ≡ at_fault place }
 {
-    let mut next = place;
-    next.lines = std::num::wrapping_add_u32(place.lines, 1);
-    next.fault = true;
-    next
-}
-
-// No bytes.
-fn no_attribute(place: Place) -> Attribute
-    ensures { result ≡ no_attribute place }
-{
-    Attribute {
-        place,
-        size: 0,
-        bytes: [0u8; 24],
+    Fault {
+        line: place.lines.wrapping_add(1),
     }
 }

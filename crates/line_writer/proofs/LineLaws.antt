@@ -1,19 +1,25 @@
 -- Laws of a run of stores, and of the texts that the writers write. Assumes nothing.
 use mathlib.Core.Path.{◌≡◌, refl, sym, ap, ◌∙◌}
+use mathlib.Core.Logic.{⊎_elim}
 use mathlib.Core.List.{List, [], ◌∷◌, ◌++◌}
-use Prim.Native.Nat.{ℕ, suc, ◌+◌, ◌/◌, ◌%◌, ◌^◌, ◌<◌, ◌≤◌}
-use native.Mathlib.Nat.{add-zero, add-suc, suc-add, add_assoc}
+use Prim.Native.Nat.{ℕ, zero, suc, ◌+◌, ◌-◌, ◌*◌, ◌/◌, ◌%◌, ◌^◌, ◌<◌, ◌≤◌}
+use native.Mathlib.Nat.{pow-suc, add-zero, add-suc, suc-add, add_assoc}
 use native.Mathlib.Numerals.{add-one}
 use native.Mathlib.Omega.{arith}
-use borrow.Author.Tests.{le-leb, lt-leb}
-use lib.ListN.{length, get_or, set, drop, length-append, drop_of_length-le}
-use lib.Seq.{sets, set_comm, drop-cons, length-sets}
+use borrow.Author.Tests.{le-leb}
+use lib.ListN.{length, set, take, drop, length-append}
+use lib.Dec.{leb}
+use mathlib.Core.Bool.{Bool, true, false}
+use Rattle.std.proofs.Common.{append_assoc, drop-drop}
+use lib.Seq.{sets, sets-eq, set_comm, length-sets}
+use borrow.Rule.Slice.PartMut.{put_mid}
+use Rattle.std.proofs.Math.Nat.{one-le-pow}
 use Rattle.format.specs.Line.{bytes, Kind, digit, decimal_text, keyed_text}
-use Rattle.format.proofs.Decimals.{decimal_one, decimal_more}
-use Rattle.format.proofs.Lengths.{length_more, at_most, length_keyed}
+use Rattle.format.proofs.Decimals.{below_or_not, decimal_one, decimal_more}
+use Rattle.format.proofs.Lengths.{length_more, length_one, length_some, length_keyed}
 use Rattle.hex_tables.specs.Tables.{digit_by, hex_text_by, line_text_by, lines_text_by}
 use Rattle.hex_tables.proofs.Lengths.{length_hex_by}
-use Rattle.line_writer.specs.Positions.{written, written_to}
+use Rattle.line_writer.specs.Positions.{fits, written, written_to}
 use Rattle.line_writer.specs.Inside.{lines_put}
 
 pub sets_append : (xs ys l : List ℕ) (i : ℕ) → sets l i (xs ++ ys) ≡ sets (sets l i xs) (i + length xs) ys
@@ -29,12 +35,11 @@ sets_last (x ∷ xs) y l i =
 
 -- ---- bytes
 
-pub put_byte : (src l : List ℕ) (k i j : ℕ) → k < length src → j ≡ i + 1
-    → sets l i (drop k src) ≡ sets (set l i (get_or src k 0)) j (drop (k + 1) src)
-put_byte src l k i j h e = rw (drop-cons src k 0 h, e, add-one i, add-one k)
-
-pub put_no_byte : (src l : List ℕ) (k i : ℕ) → length src ≤ k → sets l i (drop k src) ≡ l
-put_no_byte src l k i h = rw (drop_of_length-le src h)
+-- bytes copied over as many
+pub put_copied : (src l : List ℕ) (at : ℕ) → at + length src ≤ length l → put_mid at (at + length src - at) l src ≡ sets l at src
+put_copied src l at h =
+    let n : at + length src - at ≡ length src = omega arith in
+    rw (n, drop-drop (length src) at l) (sym (sets-eq src l at h ∙ append_assoc (take at l) src (drop (at + length src) l)))
 
 -- ---- hex digits
 
@@ -51,15 +56,29 @@ module _ (table : List ℕ) where
 
 -- ---- decimal digits
 
--- a number of 64 bits has at most 20 digits
-pub length_64 : (v : ℕ) → v < 2 ^ 64 → length (decimal_text v) ≤ 20
-length_64 v h = at_most 19 v (omega arith)
+-- how many a number has, by the powers of ten that it lies between
+pub length_between : (n v : ℕ) → 10 ^ n ≤ v → v < 10 * 10 ^ n → length (decimal_text v) ≡ n + 1
+length_between zero v g h = length_one v (omega (arith, h))
+length_between (suc n) v g h =
+    let low : 10 ^ n * 10 ≤ v = rw pow-suc at g in
+    let high : v < 10 * (10 ^ n * 10) = rw pow-suc at h in
+    let rest : length (decimal_text (v / 10)) ≡ n + 1 = length_between n (v / 10) (omega arith) (omega arith) in
+    let some : 1 ≤ 10 ^ n = one-le-pow n 10 (omega arith) in
+    let ten : 10 ≤ v = omega (arith, some, low) in
+    omega (arith, length_more v ten, rest)
 
 pub put_decimal_digit : (v m : ℕ) (l : List ℕ) (i : ℕ) → 10 ≤ v → length (decimal_text v) ≡ m + 1
     → sets l i (decimal_text v) ≡ sets (set l (i + m) (digit (v % 10))) i (decimal_text (v / 10))
 put_decimal_digit v m l i h e =
     let q : length (decimal_text (v / 10)) ≡ m = omega (arith, length_more v h, e) in
     rw (decimal_more v h) (sets_last (decimal_text (v / 10)) (digit (v % 10)) l i ∙ rw q)
+
+-- how many it has tells whether it is below ten
+pub one_digit : (v : ℕ) → length (decimal_text v) ≤ 1 → v < 10
+one_digit v h = ⊎_elim (λ (l : v < 10). l) (λ (l : 10 ≤ v). absurd (omega (arith, h, length_more v l, length_some (v / 10)))) (below_or_not v 10)
+
+pub two_digits : (v : ℕ) → 2 ≤ length (decimal_text v) → 10 ≤ v
+two_digits v h = ⊎_elim (λ (l : v < 10). absurd (omega (arith, h, length_one v l))) (λ (l : 10 ≤ v). l) (below_or_not v 10)
 
 pub put_first_digit : (v : ℕ) (l : List ℕ) (i : ℕ) → v < 10 → sets l i (decimal_text v) ≡ set l i (digit v)
 put_first_digit v l i h = rw (decimal_one v h)
@@ -72,24 +91,29 @@ unfolding keyed_text
 put_keyed key value l at p q hp hq =
     sym (sets_append key (value ++ bytes "\n") l at ∙ rw (← hp) (sets_append value (bytes "\n") (sets l at key) p ∙ rw (← hq)))
 
--- a text that does not fit
-pub text_refused : (t old : List ℕ) (at : ℕ) → length old < at + length t → (at ≡ written_to old at t) × (old ≡ written old at t)
+-- a text, by whether it fits
+pub text_refused : (t old : List ℕ) (at : ℕ) → fits old at t ≡ false → (at ≡ written_to old at t) × (old ≡ written old at t)
 unfolding written written_to
-text_refused t old at h = rw (lt-leb (at + length t) (length old) h) (refl, refl)
+text_refused t old at h = rw h (refl, refl)
 
-module _ (key value old : List ℕ) (at : ℕ) where
-  -- a line that does not fit
-  pub keyed_refused : length old < at + (length key + length value + 1)
-      → (at ≡ written_to old at (keyed_text key value)) × (old ≡ written old at (keyed_text key value))
-  keyed_refused h = text_refused (keyed_text key value) old at (omega (arith, length_keyed key value))
+pub text_written : (t old : List ℕ) (at : ℕ) → fits old at t ≡ true → (at + length t ≡ written_to old at t) × (sets old at t ≡ written old at t)
+unfolding written written_to
+text_written t old at h = rw h (refl, refl)
 
-  -- and one that does
-  pub keyed_written : (p q : ℕ) → p ≡ at + length key → q ≡ p + length value → at + (length key + length value + 1) ≤ length old
+-- a line, by whether there is room for so many bytes
+module _ (key value old : List ℕ) (at n : ℕ) (size : n ≡ length key + length value + 1) where
+  keyed_fits : (t : Bool) → leb (at + n) (length old) ≡ t → fits old at (keyed_text key value) ≡ t
+  keyed_fits t h = ap (λ (k : ℕ). leb (at + k) (length old)) (length_keyed key value ∙ sym size) ∙ h
+
+  pub keyed_refused : leb (at + n) (length old) ≡ false → (at ≡ written_to old at (keyed_text key value)) × (old ≡ written old at (keyed_text key value))
+  keyed_refused h = text_refused (keyed_text key value) old at (keyed_fits false h)
+
+  pub keyed_written : (p q : ℕ) → p ≡ at + length key → q ≡ p + length value → leb (at + n) (length old) ≡ true
       → (q + 1 ≡ written_to old at (keyed_text key value)) × (set (sets (sets old at key) p value) q 10 ≡ written old at (keyed_text key value))
-  unfolding written written_to
   keyed_written p q hp hq h =
-      let e = le-leb (at + length (keyed_text key value)) (length old) (omega (arith, length_keyed key value)) in
-      rw e (omega (arith, length_keyed key value), put_keyed key value old at p q hp hq)
+      let w = text_written (keyed_text key value) old at (keyed_fits true h) in
+      let e : q + 1 ≡ at + length (keyed_text key value) = omega (arith, hp, hq, length_keyed key value) in
+      (e ∙ w.0, put_keyed key value old at p q hp hq ∙ w.1)
 
 -- ---- lines one after the other
 

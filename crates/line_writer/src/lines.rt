@@ -1,5 +1,5 @@
 // Writers of a line at a position, one to a form of value, and of bytes. What does not fit the buffer is not written at all.
-ghost use Rattle.std.specs.Prelude.{◌≡◌, ◌+◌, ◌≤◌, length};
+ghost use Rattle.std.specs.Prelude.{◌≡◌, ◌+◌, ◌≤◌, leb, length};
 ghost use Rattle.std.proofs.lemmas.List.Edits.{sets};
 ghost use Rattle.format.specs.Line.{decimal_text, keyed_text};
 ghost use Rattle.hex_tables.specs.Tables.{hex_text_by};
@@ -8,18 +8,21 @@ ghost use Rattle.line_writer.specs.Positions.{written_to, written};
 use crate::NEWLINE;
 use crate::digits::{decimal_digit, hex_digit};
 
+// Whether so many bytes fit buf from the position at on.
+pub fn has_room(buf: &[u8], at: usize, size: usize) -> bool
+    ensures { result ≡ leb (at + size) (length buf.now) }
+{
+    size <= buf.len() && at <= buf.len() - size
+}
+
 // The bytes of src into buf at the position at.
 fn put_bytes(buf: &mut [u8], at: usize, src: &[u8]) -> usize
     requires { at + length src.now ≤ length buf.old }
     ensures { (result ≡ at + length src.now) × (buf.new ≡ sets buf.old at src.now) }
 {
-    let n = src.len();
-    let mut k: usize = 0;
-    while k < n {
-        buf[at + k] = src[k];
-        k += 1;
-    }
-    at + n
+    let end = at + src.len();
+    buf[at..end].copy_from_slice(src);
+    end
 }
 
 // The last n hex digits of v, by the table, into buf at the position at.
@@ -27,12 +30,10 @@ fn put_hex(buf: &mut [u8], at: usize, n: usize, v: u64, table: &[u8; 16]) -> usi
     requires { at + n ≤ length buf.old }
     ensures { (result ≡ at + n) × (buf.new ≡ sets buf.old at (hex_text_by table.now n v)) }
 {
-    let mut m = n;
     let mut w = v;
-    while 0 < m {
-        m -= 1;
+    for m in (0..n).rev() {
         buf[at + m] = hex_digit(table, w % 16);
-        w = w / 16;
+        w /= 16;
     }
     at + n
 }
@@ -41,13 +42,10 @@ fn put_hex(buf: &mut [u8], at: usize, n: usize, v: u64, table: &[u8; 16]) -> usi
 pub fn decimal_length(v: u64) -> usize
     ensures { (result ≡ length (decimal_text v)) × (result ≤ 20) }
 {
-    let mut n: usize = 1;
-    let mut w = v;
-    while 10 <= w {
-        n += 1;
-        w = w / 10;
+    match v.checked_ilog10() {
+        Some(power) => power as usize + 1,
+        None => 1,
     }
-    n
 }
 
 // The decimal digits of v, which are n, into buf at the position at.
@@ -55,12 +53,10 @@ fn put_decimal(buf: &mut [u8], at: usize, n: usize, v: u64) -> usize
     requires { (n ≡ length (decimal_text v)) × (at + n ≤ length buf.old) }
     ensures { (result ≡ at + n) × (buf.new ≡ sets buf.old at (decimal_text v)) }
 {
-    let mut m = n;
     let mut w = v;
-    while 10 <= w {
-        m -= 1;
+    for m in (1..n).rev() {
         buf[at + m] = decimal_digit(w % 10);
-        w = w / 10;
+        w /= 10;
     }
     buf[at] = decimal_digit(w);
     at + n
@@ -70,34 +66,25 @@ fn put_decimal(buf: &mut [u8], at: usize, n: usize, v: u64) -> usize
 pub fn write_bytes(buf: &mut [u8], at: usize, src: &[u8]) -> usize
     ensures { (result ≡ written_to buf.old at src.now) × (buf.new ≡ written buf.old at src.now) }
 {
-    let size = src.len();
-    let len = buf.len();
-    if len < size {
-        return at;
-    }
-    if len - size < at {
+    if !has_room(buf, at, src.len()) {
         return at;
     }
     put_bytes(buf, at, src)
 }
 
+// (Two writers: what digits there are and how many differs, and only the room, the key and the newline are alike.)
 // The line of key and the last n hex digits of v, by the table, into buf at the position at: the position past it, or at where it does not fit.
 pub fn write_hex(buf: &mut [u8], at: usize, key: &[u8], n: u8, v: u64, table: &[u8; 16]) -> usize
     ensures { (result ≡ written_to buf.old at (keyed_text key.now (hex_text_by table.now n v))) × (buf.new ≡ written buf.old at (keyed_text key.now (hex_text_by table.now n v))) }
 {
-    let digits = n as usize;
-    let size = key.len() + digits + 1;
-    let len = buf.len();
-    if len < size {
+    let digits = usize::from(n);
+    if !has_room(buf, at, key.len() + digits + 1) {
         return at;
     }
-    if len - size < at {
-        return at;
-    }
-    let p = put_bytes(buf, at, key);
-    let q = put_hex(buf, p, digits, v, table);
-    buf[q] = NEWLINE;
-    q + 1
+    let value = put_bytes(buf, at, key);
+    let end = put_hex(buf, value, digits, v, table);
+    buf[end] = NEWLINE;
+    end + 1
 }
 
 // The line of key and the decimal digits of v into buf at the position at: the position past it, or at where it does not fit.
@@ -105,16 +92,11 @@ pub fn write_decimal(buf: &mut [u8], at: usize, key: &[u8], v: u64) -> usize
     ensures { (result ≡ written_to buf.old at (keyed_text key.now (decimal_text v))) × (buf.new ≡ written buf.old at (keyed_text key.now (decimal_text v))) }
 {
     let digits = decimal_length(v);
-    let size = key.len() + digits + 1;
-    let len = buf.len();
-    if len < size {
+    if !has_room(buf, at, key.len() + digits + 1) {
         return at;
     }
-    if len - size < at {
-        return at;
-    }
-    let p = put_bytes(buf, at, key);
-    let q = put_decimal(buf, p, digits, v);
-    buf[q] = NEWLINE;
-    q + 1
+    let value = put_bytes(buf, at, key);
+    let end = put_decimal(buf, value, digits, v);
+    buf[end] = NEWLINE;
+    end + 1
 }

@@ -47,6 +47,7 @@ texts_hold =
       above_inheritable = refl;
       above_effective = refl;
       no_room = refl;
+      refusals_told = (refl, refl);
       room = refl;
       buffer = refl;
       refused_buffer = refl;

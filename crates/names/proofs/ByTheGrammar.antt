@@ -3,7 +3,8 @@ use mathlib.Core.Path.{◌≡◌}
 use mathlib.Core.List.{List, ◌++◌}
 use Prim.Native.Nat.{ℕ, ◌≤◌, ◌<◌}
 use lib.ListN.{length, take}
-use Rattle.names.specs.declared.Reading.TheVariants.{Malformed}
+use Rattle.std.specs.Prelude.{Err}
+use Rattle.names.specs.declared.ReadError.TheVariants.{Malformed}
 use Rattle.names.specs.Grammar.{no_sets, Beginning}
 use Rattle.names.specs.Reading.{gap, read_text}
 use Rattle.names.specs.ByTheGrammar.{ByTheGrammar}
@@ -11,7 +12,7 @@ use Rattle.names.proofs.Completed.{Good, Place, place}
 use Rattle.names.proofs.WellFormedRead.{text_run}
 use Rattle.names.proofs.ReadWellFormed.{run_text}
 
-place_of : (t : List ℕ) (n : ℕ) → read_text t ≡ Malformed n → Place (gap no_sets) t n
+place_of : (t : List ℕ) (n : ℕ) → read_text t ≡ Err (Malformed n) → Place (gap no_sets) t n
 unfolding read_text Good
 place_of t n h = place (gap no_sets) t n tt h
 

@@ -10,10 +10,10 @@ use lib.ListN.{length, take}
 use Rattle.capabilities.proofs.Inclusion.{and_l, and_r}
 use Rattle.capabilities.specs.Sets.{union, full}
 use Rattle.names.specs.declared.Sets.{Sets}
-use Rattle.names.specs.declared.Reading.{Reading}
-use Rattle.names.specs.declared.Reading.TheVariants.{Means, Malformed}
+use Rattle.std.specs.Prelude.{Ok, Err}
+use Rattle.names.specs.declared.ReadError.TheVariants.{Malformed}
 use Rattle.names.specs.Grammar.{lower, blank, flag, equals, comma, plus, dash, flagged, without, Word, spelt, names}
-use Rattle.names.specs.Reading.{every, after, State, gap, word, operated, Step, go, stuck, finish, later, told, operator, past, within, step, run}
+use Rattle.names.specs.Reading.{Reading, every, after, State, gap, word, operated, Step, go, stuck, finish, later, told, operator, past, within, step, run}
 use Rattle.names.proofs.Run.{runs, ran}
 use Rattle.names.proofs.Words.{high, tidy, names_tidy, first_tidy, after_tidy, after_low, lower_high}
 
@@ -95,13 +95,13 @@ tidy_rest k ks m j xs h =
     rw (and_r (leb 95 k) (high ks) (and_l (leb 95 k && high ks) (tidy xs) h), after_tidy k xs (and_r (leb 95 k && high ks) (tidy xs) h))
 
 word_completes : (ks : List ℕ) (m : ℕ) (j : Bool) (xs : List Word) (c : ℕ) (s : Sets) → tidy (spelt ks m j ∷ xs) ≡ true
-    → run (word (spelt ks m j ∷ xs) c s) (ks ++ (equals ∷ [])) ≡ Means (without (union c m) s)
+    → run (word (spelt ks m j ∷ xs) c s) (ks ++ (equals ∷ [])) ≡ Ok (without (union c m) s)
 unfolding tidy high
 word_completes [] m j xs c s h = runs _ _ equals [] _ (complete_end m j xs c s h) (unfold run in refl)
 word_completes (k ∷ ks) m j xs c s h =
     runs _ _ k (ks ++ (equals ∷ [])) _ (complete k ks m j xs c s h) (word_completes ks m j (after k xs) c s (tidy_rest k ks m j xs h))
 
-pub completes : (s : State) → Good s → (more : List ℕ) × (v : Sets) × (run s more ≡ Means v)
+pub completes : (s : State) → Good s → (more : List ℕ) × (v : Sets) × (run s more ≡ Ok v)
 unfolding run step Good
 completes (gap s) h = ([], s, refl)
 completes (word [] c s) h = absurd h
@@ -115,14 +115,14 @@ completes (operated g false c s) h = (101 ∷ [], flagged g c 101 s, refl)
 pub record Place (s : State) (t : List ℕ) (n : ℕ) : Type 0 where
   pub inside : n ≤ length t
   -- some bytes complete what stands before it
-  pub begins : (more : List ℕ) × (v : Sets) × (run s (take n t ++ more) ≡ Means v)
+  pub begins : (more : List ℕ) × (v : Sets) × (run s (take n t ++ more) ≡ Ok v)
   -- nothing longer is read as sets, whatever follows
-  pub longest : (m : ℕ) → n < m → m ≤ length t → (more : List ℕ) (v : Sets) → run s (take m t ++ more) ≡ Means v → ⊥
+  pub longest : (m : ℕ) → n < m → m ≤ length t → (more : List ℕ) (v : Sets) → run s (take m t ++ more) ≡ Ok v → ⊥
 
 stuck_means : {B : Type 0} (s next : State) (b : ℕ) → step s b ≡ stuck → step s b ≡ go next → B
 stuck_means s next b e h = let z : ◌≡◌ {A = ℕ} 0 1 = cc in absurd (omega arith)
 
-never : (s : State) (b : ℕ) (t : List ℕ) → step s b ≡ stuck → (m : ℕ) → 0 < m → (more : List ℕ) (v : Sets) → run s (take m (b ∷ t) ++ more) ≡ Means v → ⊥
+never : (s : State) (b : ℕ) (t : List ℕ) → step s b ≡ stuck → (m : ℕ) → 0 < m → (more : List ℕ) (v : Sets) → run s (take m (b ∷ t) ++ more) ≡ Ok v → ⊥
 never s b t e zero l more v h = absurd (omega arith)
 never s b t e (suc m) l more v h =
     let r = ran s b (take m t ++ more) v h in
@@ -135,7 +135,7 @@ at_end : (s : State) → Good s → Place s [] zero
 at_end s g = record { inside = omega arith; begins = completes s g; longest = λ m l u more v h. absurd (omega arith) }
 
 later_longest : (s next : State) (b : ℕ) (t : List ℕ) (n : ℕ) → step s b ≡ go next → Place next t n
-    → (m : ℕ) → suc n < m → m ≤ length (b ∷ t) → (more : List ℕ) (v : Sets) → run s (take m (b ∷ t) ++ more) ≡ Means v → ⊥
+    → (m : ℕ) → suc n < m → m ≤ length (b ∷ t) → (more : List ℕ) (v : Sets) → run s (take m (b ∷ t) ++ more) ≡ Ok v → ⊥
 later_longest s next b t n e p zero l u more v h = absurd (omega arith)
 later_longest s next b t n e p (suc m) l u more v h =
     let r = ran s b (take m t ++ more) v h in
@@ -151,23 +151,23 @@ at_next s next b t n e p =
       longest = later_longest s next b t n e p;
     }
 
-place_next : (s next : State) (b : ℕ) (t : List ℕ) (n : ℕ) → step s b ≡ go next → (r : Reading) → later r ≡ Malformed n
-    → ((k : ℕ) → r ≡ Malformed k → Place next t k) → Place s (b ∷ t) n
-place_next s next b t n e (Means v) h f = let z : ◌≡◌ {A = ℕ} 0 1 = cc in absurd (omega arith)
-place_next s next b t n e (Malformed k) h f = let q : suc k ≡ n = cc in rw (← q) (at_next s next b t k e (f k refl))
+place_next : (s next : State) (b : ℕ) (t : List ℕ) (n : ℕ) → step s b ≡ go next → (r : Reading) → later r ≡ Err (Malformed n)
+    → ((k : ℕ) → r ≡ Err (Malformed k) → Place next t k) → Place s (b ∷ t) n
+place_next s next b t n e (Ok v) h f = let z : ◌≡◌ {A = ℕ} 0 1 = cc in absurd (omega arith)
+place_next s next b t n e (Err (Malformed k)) h f = let q : suc k ≡ n = cc in rw (← q) (at_next s next b t k e (f k refl))
 
-place_step : (s : State) (b : ℕ) (t : List ℕ) (n : ℕ) (x : Step) → Good s → step s b ≡ x → told x (λ next. run next t) ≡ Malformed n
-    → ((next : State) (k : ℕ) → Good next → run next t ≡ Malformed k → Place next t k) → Place s (b ∷ t) n
+place_step : (s : State) (b : ℕ) (t : List ℕ) (n : ℕ) (x : Step) → Good s → step s b ≡ x → told x (λ next. run next t) ≡ Err (Malformed n)
+    → ((next : State) (k : ℕ) → Good next → run next t ≡ Err (Malformed k) → Place next t k) → Place s (b ∷ t) n
 place_step s b t n (go next) g e h f = place_next s next b t n e (run next t) h (λ k q. f next k (next_good s next b g e) q)
 place_step s b t n stuck g e h f = let q : 0 ≡ n = cc in rw (← q) (at_stuck s b t g e)
 
-place_end : (s : State) (n : ℕ) → Good s → finish s ≡ Malformed n → Place s [] n
+place_end : (s : State) (n : ℕ) → Good s → finish s ≡ Err (Malformed n) → Place s [] n
 place_end (gap s) n g h = let z : ◌≡◌ {A = ℕ} 0 1 = cc in absurd (omega arith)
 place_end (word xs c s) n g h = let q : 0 ≡ n = cc in rw (← q) (at_end (word xs c s) g)
 place_end (operated a true c s) n g h = let z : ◌≡◌ {A = ℕ} 0 1 = cc in absurd (omega arith)
 place_end (operated a false c s) n g h = let q : 0 ≡ n = cc in rw (← q) (at_end (operated a false c s) g)
 
-pub place : (s : State) (t : List ℕ) (n : ℕ) → Good s → run s t ≡ Malformed n → Place s t n
+pub place : (s : State) (t : List ℕ) (n : ℕ) → Good s → run s t ≡ Err (Malformed n) → Place s t n
 unfolding run
 place s [] n g h = place_end s n g h
 place s (b ∷ t) n g h = place_step s b t n (step s b) g refl h (λ next k q r. place next t k q r)

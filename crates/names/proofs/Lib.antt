@@ -5,7 +5,6 @@ pub mod Completed
 pub mod WellFormedRead
 pub mod ReadWellFormed
 pub mod ByTheGrammar
-pub mod Rows
 pub mod WrittenClauses
 pub mod ReadWritable
 pub mod RoundTrip

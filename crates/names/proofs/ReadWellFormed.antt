@@ -11,7 +11,7 @@ use Rattle.capabilities.proofs.Inclusion.{and_l, and_r}
 use Rattle.capabilities.specs.Sets.{union, full}
 use Rattle.format.specs.Line.{bytes}
 use Rattle.names.specs.declared.Sets.{Sets}
-use Rattle.names.specs.declared.Reading.TheVariants.{Means}
+use Rattle.std.specs.Prelude.{Ok}
 use Rattle.names.specs.Grammar.{lower, lowered, blank, flag, equals, comma, plus, dash, flagged, without, Word, spelt, names, ◌among◌}
 use Rattle.names.specs.Grammar.{Names, name, join, Flags, none, one, Operator, put, give, take, Operators, last, more, Clause, named, whole, unnamed, Text, empty, space, final, clause}
 use Rattle.names.specs.Reading.{every, after, State, gap, word, operated, Step, go, stuck, finish, operator, past, within, step, run}
@@ -264,7 +264,7 @@ step_after (gap s) b t v h = gap_after s b t v h
 step_after (word xs c s) b t v h = word_after xs c s b t v h
 step_after (operated g e c s) b t v h = operated_after g e c s b t v h
 
-end_after : (s : State) (v : Sets) → finish s ≡ Means v → After s [] v
+end_after : (s : State) (v : Sets) → finish s ≡ Ok v → After s [] v
 unfolding After
 end_after (gap s) v h = let q : s ≡ v = cc in rw q empty
 end_after (word xs c s) v h = not_both h
@@ -275,12 +275,12 @@ go_after : (s next : State) (b : ℕ) (t : List ℕ) (v : Sets) → step s b ≡
 unfolding AfterStep
 go_after s next b t v e h = rw e h
 
-run_after : (s : State) (t : List ℕ) (v : Sets) → run s t ≡ Means v → After s t v
+run_after : (s : State) (t : List ℕ) (v : Sets) → run s t ≡ Ok v → After s t v
 run_after s [] v h = end_after s v (unfold run in h)
 run_after s (b ∷ t) v h =
     let r = ran s b t v h in
     step_after s b t v (go_after s r.0 b t v r.1 (run_after r.0 t v r.2))
 
-pub run_text : (s : Sets) (t : List ℕ) (v : Sets) → run (gap s) t ≡ Means v → Text s t v
+pub run_text : (s : Sets) (t : List ℕ) (v : Sets) → run (gap s) t ≡ Ok v → Text s t v
 unfolding After
 run_text s t v h = run_after (gap s) t v h

@@ -7,7 +7,7 @@ use lib.Dec.{eqb}
 use Rattle.capabilities.specs.Sets.{full, union, single, within, Within}
 use Rattle.capabilities.proofs.Inclusion.{none_sub, union_sub, minus_sub, within_sub, sub_not_outside, sub_refl}
 use Rattle.names.specs.declared.Sets.{Sets}
-use Rattle.names.specs.declared.Reading.TheVariants.{Means}
+use Rattle.std.specs.Prelude.{Ok}
 use Rattle.names.specs.Grammar.{lowered, changed, flagged, without, no_sets, flag_e, flag_i, Word, spelt, names, ◌among◌}
 use Rattle.names.specs.Grammar.{Names, name, join, Flags, none, one, Operator, put, give, take, Operators, last, more, Clause, named, whole, unnamed, Text, empty, space, final, clause}
 use Rattle.names.specs.Reading.{read_text}
@@ -78,7 +78,7 @@ text_known s v t k (space {t = t'} h x) = text_known s v t' k x
 text_known s v t k (final c) = clause_known s v t k c
 text_known s v t k (clause {v = mid} {t = t'} {u = u} b c h x) = text_known mid v u (clause_known s mid t' k c) x
 
-pub read_writable : (t : List ℕ) (s : Sets) → read_text t ≡ Means s → bits_above40 s ≡ false
+pub read_writable : (t : List ℕ) (s : Sets) → read_text t ≡ Ok s → bits_above40 s ≡ false
 unfolding read_text bits_above40
 read_writable t s h =
     let k = text_known no_sets s t (record { permitted = none_sub; inheritable = none_sub; effective = none_sub }) (run_text no_sets t s h) in

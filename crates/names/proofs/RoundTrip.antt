@@ -17,7 +17,9 @@ use Rattle.capabilities.proofs.Membership.{has_union, has_minus, has_single, has
 use Rattle.capabilities.proofs.Inclusion.{and_l, and_r, union_sub_l, union_sub_r, not_outside, full_lt}
 use Rattle.format.specs.Line.{bytes}
 use Rattle.names.specs.declared.Sets.{Sets}
-use Rattle.names.specs.declared.Reading.TheVariants.{Means}
+use Rattle.std.specs.Prelude.{Ok, Err}
+use Rattle.attribute.specs.Writer.{left_by}
+use Rattle.attribute.specs.declared.WriteError.TheVariants.{OutOfRange, NoRoom}
 use Rattle.names.specs.Names.{capability_names}
 use Rattle.names.specs.Grammar.{without, no_sets, Word, spelt, words_from, names, ◌among◌, Flags, none, one, Clause, named, name, last, put}
 use Rattle.names.specs.Reading.{gap, operated, run, read_text}
@@ -167,11 +169,11 @@ clause_of n s v x low h =
 
 -- from number n on, between clauses and after one
 record Trip (n : ℕ) (l : List String) (s : Sets) : Type 0 where
-  between : (v : Sets) → Sofar n s v → run (gap v) (clauses_text true s n l) ≡ Means s
-  behind : (v : Sets) (g : Bool) (c : ℕ) → Sofar n s v → run (operated g true c v) (clauses_text false s n l) ≡ Means s
+  between : (v : Sets) → Sofar n s v → run (gap v) (clauses_text true s n l) ≡ Ok s
+  behind : (v : Sets) (g : Bool) (c : ℕ) → Sofar n s v → run (operated g true c v) (clauses_text false s n l) ≡ Ok s
 
 module _ (n : ℕ) (x : String) (l : List String) (s : Sets) (h : n < 64) (low : high (bytes x) ≡ true) (m : spelt (bytes x) (single n) true among names) (t : Trip (suc n) l s) where
-  read_one : (v : Sets) → Sofar n s v → run (gap v) (clause_text s n x ++ clauses_text false s (suc n) l) ≡ Means s
+  read_one : (v : Sets) → Sofar n s v → run (gap v) (clause_text s n x ++ clauses_text false s (suc n) l) ≡ Ok s
   read_one v u =
       clause_run v (next n s v) (clause_text s n x) (clauses_text false s (suc n) l) s (clause_of n s v x low m)
       (λ g c. t.behind (next n s v) g c (sofar_next n s v h u))
@@ -195,8 +197,8 @@ unfolding tidy words_from ◌among◌ run clauses_text
 trip [] n s e low sub w =
     let f : n ≡ 41 = omega arith in
     record {
-      between = λ v u. ap Means (sofar_all s v w (rw f at u));
-      behind = λ v g c u. ap Means (sofar_all s v w (rw f at u));
+      between = λ v u. ap Ok (sofar_all s v w (rw f at u));
+      behind = λ v g c u. ap Ok (sofar_all s v w (rw f at u));
     }
 trip (x ∷ l) n s e low sub w =
     by_test n x l s (omega arith) (and_l (high (bytes x)) (tidy (words_from (suc n) l)) low) (sub (spelt (bytes x) (single n) true) (inl refl))
@@ -218,24 +220,24 @@ whole_trip : (s : Sets) → bits_above40 s ≡ false → Trip 0 capability_names
 unfolding names
 whole_trip s w = let e = names_apart.count in trip capability_names 0 s (omega arith) names_tidy (λ y h. h) w
 
-written_read : (s : Sets) → bits_above40 s ≡ false → read_text (sets_text s) ≡ Means s
+written_read : (s : Sets) → bits_above40 s ≡ false → read_text (sets_text s) ≡ Ok s
 unfolding read_text
 written_read s w = ap (run (gap no_sets)) (whole_text s) ∙ (whole_trip s w).between no_sets (nothing_yet s)
 
 -- ---- the writer's buffer
 
-buffer_read : (s : Sets) (old : List ℕ) → (names_answer s (length old)).code ≡ 0 → read_text (take (names_answer s (length old)).length (names_buffer s old)) ≡ Means s
+buffer_read : (s : Sets) (old : List ℕ) (n : ℕ) → names_answer s (length old) ≡ Ok n → read_text (take n (names_buffer s old)) ≡ Ok s
 unfolding names_answer names_buffer
-buffer_read s old h = by_tests (bits_above40 s) (leb (length (sets_text s)) (length old)) refl refl h
+buffer_read s old n h = by_tests (bits_above40 s) (leb (length (sets_text s)) (length old)) refl refl h
   where
     t : List ℕ
     t = sets_text s
 
-    by_tests : (p q : Bool) → bits_above40 s ≡ p → leb (length t) (length old) ≡ q → (names_answer s (length old)).code ≡ 0
-        → read_text (take (names_answer s (length old)).length (names_buffer s old)) ≡ Means s
-    by_tests true q e f z = let n : ◌≡◌ {A = ℕ} 22 0 = rw e at z in absurd (omega arith)
-    by_tests false false e f z = let n : ◌≡◌ {A = ℕ} 28 0 = rw (e, f) at z in absurd (omega arith)
-    by_tests false true e f z = rw (e, f) (ap read_text (take-append_seam t (drop (length t) old)) ∙ written_read s e)
+    by_tests : (p q : Bool) → bits_above40 s ≡ p → leb (length t) (length old) ≡ q → cond p (Err OutOfRange) (cond q (Ok (length t)) (Err NoRoom)) ≡ Ok n
+        → read_text (take n (left_by (cond p (Err OutOfRange) (cond q (Ok (length t)) (Err NoRoom))) t old)) ≡ Ok s
+    by_tests true q e f z = let k : ◌≡◌ {A = ℕ} 0 1 = cc in absurd (omega arith)
+    by_tests false false e f z = let k : ◌≡◌ {A = ℕ} 0 1 = cc in absurd (omega arith)
+    by_tests false true e f z = let k : length t ≡ n = cc in rw (← k) (ap read_text (take-append_seam t (drop (length t) old)) ∙ written_read s e)
 
 pub round_trip : RoundTrip
 round_trip = record { written_read = written_read; buffer_read = buffer_read; read_writable = read_writable }

@@ -11,7 +11,7 @@ use lib.Dec.{eqb}
 use Rattle.capabilities.specs.Sets.{union, full}
 use Rattle.format.specs.Line.{bytes}
 use Rattle.names.specs.declared.Sets.{Sets}
-use Rattle.names.specs.declared.Reading.TheVariants.{Means}
+use Rattle.std.specs.Prelude.{Ok}
 use Rattle.names.specs.Grammar.{lower, lowered, blank, equals, comma, plus, dash, flagged, without, Word, spelt, names, ◌among◌}
 use Rattle.names.specs.Grammar.{Names, name, join, Flags, none, one, Operator, put, give, take, Operators, last, more, Clause, named, whole, unnamed, Text, empty, space, final, clause}
 use Rattle.names.specs.Reading.{every, after, State, gap, word, operated, Step, go, stuck, operator, past, within, step, run}
@@ -27,7 +27,7 @@ within_some x (y ∷ ys) c s o h = refl
 
 -- reading a word that is among those expected leads to what is left after it
 word_run : (t : List ℕ) (m : ℕ) (j : Bool) (xs : List Word) (c : ℕ) (s : Sets) (u : List ℕ) (v : Sets) → spelt (lowered t) m j among xs
-    → run (word (afters (lowered t) xs) c s) u ≡ Means v → run (word xs c s) (t ++ u) ≡ Means v
+    → run (word (afters (lowered t) xs) c s) u ≡ Ok v → run (word xs c s) (t ++ u) ≡ Ok v
 unfolding lowered afters
 word_run [] m j xs c s u v h r = r
 word_run (b ∷ t) m j xs c s u v h r =
@@ -38,13 +38,13 @@ word_run (b ∷ t) m j xs c s u v h r =
 
 -- ---- operators and flags
 
-flags_run : (g e : Bool) (c : ℕ) (s v : Sets) (t u : List ℕ) (w : Sets) → Flags g c s t v → run (operated g true c v) u ≡ Means w → run (operated g true c s) (t ++ u) ≡ Means w
+flags_run : (g e : Bool) (c : ℕ) (s v : Sets) (t u : List ℕ) (w : Sets) → Flags g c s t v → run (operated g true c v) u ≡ Ok w → run (operated g true c s) (t ++ u) ≡ Ok w
 flags_run g e c s v t u w none r = r
 flags_run g e c s v t u w (one {b = b} {t = t'} f fs) r =
     runs (operated g true c s) (operated g true c (flagged g c b s)) b (t' ++ u) w (unfold step in rw f) (flags_run g e c (flagged g c b s) v t' u w fs r)
 
-some_run : (g : Bool) (c : ℕ) (s v : Sets) (b : ℕ) (t u : List ℕ) (w : Sets) → Flags g c s (b ∷ t) v → run (operated g true c v) u ≡ Means w
-    → run (operated g false c s) ((b ∷ t) ++ u) ≡ Means w
+some_run : (g : Bool) (c : ℕ) (s v : Sets) (b : ℕ) (t u : List ℕ) (w : Sets) → Flags g c s (b ∷ t) v → run (operated g true c v) u ≡ Ok w
+    → run (operated g false c s) ((b ∷ t) ++ u) ≡ Ok w
 some_run g c s v b t u w (one f fs) r =
     runs (operated g false c s) (operated g true c (flagged g c b s)) b (t ++ u) w (unfold step in rw f) (flags_run g true c (flagged g c b s) v t u w fs r)
 
@@ -62,7 +62,7 @@ unfolding step operator past after
 word_operates m j c s = (refl, refl, refl)
 
 operator_run : (x : State) (c : ℕ) (s v : Sets) (t u : List ℕ) (w : Sets) → Operates x c s → Operator c s t v
-    → ((g : Bool) → run (operated g true c v) u ≡ Means w) → run x (t ++ u) ≡ Means w
+    → ((g : Bool) → run (operated g true c v) u ≡ Ok w) → run x (t ++ u) ≡ Ok w
 operator_run x c s v t u w o (put {t = t'} fs) r =
     runs x (operated true true c (without c s)) equals (t' ++ u) w o.0 (flags_run true true c (without c s) v t' u w fs (r true))
 operator_run x c s v t u w o (give {b = b} {t = t'} fs) r =
@@ -71,7 +71,7 @@ operator_run x c s v t u w o (take {b = b} {t = t'} fs) r =
     runs x (operated false false c s) dash ((b ∷ t') ++ u) w o.2 (some_run false c s v b t' u w fs (r false))
 
 operators_run : (c : ℕ) (x : State) (s v : Sets) (t u : List ℕ) (w : Sets) → Operates x c s → Operators c s t v
-    → ((g : Bool) → run (operated g true c v) u ≡ Means w) → run x (t ++ u) ≡ Means w
+    → ((g : Bool) → run (operated g true c v) u ≡ Ok w) → run x (t ++ u) ≡ Ok w
 operators_run c x s v t u w o (last a) r = operator_run x c s v t u w o a r
 operators_run c x s v t u w o (more {v = mid} {t = t'} {u = u'} a rest) r =
     rw (append_assoc t' u' u) (operator_run x c s mid t' (u' ++ u) w o a (λ g. operators_run c (operated g true c mid) mid v u' u w (operated_operates g c mid) rest r))
@@ -80,8 +80,8 @@ operators_run c x s v t u w o (more {v = mid} {t = t'} {u = u'} a rest) r =
 
 names_run : (xs : List Word) → ((x : Word) → x among names → x among xs)
     → ((w : List ℕ) (m : ℕ) (j : Bool) → spelt w m j among xs → afters w xs ≡ spelt [] m j ∷ [])
-    → (c d : ℕ) (s : Sets) (t u : List ℕ) (w : Sets) → Names c t d → ((x : State) → Operates x d s → run x u ≡ Means w)
-    → run (word xs c s) (t ++ u) ≡ Means w
+    → (c d : ℕ) (s : Sets) (t u : List ℕ) (w : Sets) → Names c t d → ((x : State) → Operates x d s → run x u ≡ Ok w)
+    → run (word xs c s) (t ++ u) ≡ Ok w
 names_run xs into alone c d s t u w (name m h) k =
     word_run t m true xs c s u w (into _ h)
     (rw (alone (lowered t) m true (into _ h)) (k (word (spelt [] m true ∷ []) c s) (word_operates m true c s)))
@@ -109,7 +109,7 @@ gap_step s b next e (no g) =
     let h = letter_not b (omega arith) (dec_lt b 65) in
     rw (h.0, h.1) e
 
-pub gap_as_word : (s : Sets) (t : List ℕ) (v : Sets) → run (word (every ∷ names) 0 s) t ≡ Means v → run (gap s) t ≡ Means v
+pub gap_as_word : (s : Sets) (t : List ℕ) (v : Sets) → run (word (every ∷ names) 0 s) t ≡ Ok v → run (gap s) t ≡ Ok v
 unfolding run
 gap_as_word s [] v e = not_both e
 gap_as_word s (b ∷ t) v e =
@@ -118,14 +118,14 @@ gap_as_word s (b ∷ t) v e =
 
 -- ---- clauses and texts
 
-put_run : (s : Sets) (t : List ℕ) (v : Sets) → run (operated true true full s) (equals ∷ t) ≡ Means v → run (gap s) (equals ∷ t) ≡ Means v
+put_run : (s : Sets) (t : List ℕ) (v : Sets) → run (operated true true full s) (equals ∷ t) ≡ Ok v → run (gap s) (equals ∷ t) ≡ Ok v
 unfolding run step operator
 put_run s t v e = e
 
 same_word : (t : List ℕ) → lowered t ≡ bytes "all" → spelt (lowered t) full false ≡ every
 same_word t e = rw e
 
-pub clause_run : (s v : Sets) (t u : List ℕ) (w : Sets) → Clause s t v → ((g : Bool) (c : ℕ) → run (operated g true c v) u ≡ Means w) → run (gap s) (t ++ u) ≡ Means w
+pub clause_run : (s v : Sets) (t u : List ℕ) (w : Sets) → Clause s t v → ((g : Bool) (c : ℕ) → run (operated g true c v) u ≡ Ok w) → run (gap s) (t ++ u) ≡ Ok w
 clause_run s v t u w (named {c = c} {t = t'} {u = u'} ns operating) k =
     rw (append_assoc t' u' u)
     (gap_as_word s (t' ++ (u' ++ u)) w
@@ -159,7 +159,7 @@ blank_stays : (s : Sets) (b : ℕ) → blank b ≡ true → step (gap s) b ≡ g
 unfolding step
 blank_stays s b h = rw h
 
-pub text_run : (s v : Sets) (t : List ℕ) → Text s t v → run (gap s) t ≡ Means v
+pub text_run : (s v : Sets) (t : List ℕ) → Text s t v → run (gap s) t ≡ Ok v
 unfolding run
 text_run s v t empty = refl
 text_run s v t (space {b = b} {t = t'} h rest) = runs (gap s) (gap s) b t' v (blank_stays s b h) (text_run s v t' rest)

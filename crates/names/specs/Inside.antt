@@ -1,28 +1,9 @@
--- The names as rows of a table, and the clauses one behind the other, for private functions of `names_reader` and `names_writer`; no public contract cites
--- these. Assumes nothing.
-use Rattle.std.specs.Prelude.{ℕ, suc, List, [], ◌∷◌, ◌++◌, Bool, false, cond, length, drop}
+-- The clauses one behind the other, for private functions of `names_writer`; no public contract cites these. Assumes nothing.
+use Rattle.std.specs.Prelude.{ℕ, suc, List, [], ◌∷◌, ◌++◌, Bool, false, cond}
 use Prim.Native.String.{String}
 use Rattle.format.specs.Line.{bytes}
 use Rattle.names.specs.declared.Sets.{Sets}
 use Rattle.names.specs.Writing.{has_flag, clause_text}
-
--- ---- a table of names
-
--- a row: a name's bytes behind `cap_`, and its capability's number
-pub data Row : Type 0 where
-  row : List ℕ → ℕ → Row
-
--- the rows of the capabilities from number n on
-unfoldable pub rows_from : ℕ → List String → List Row
-rows_from n [] = []
-rows_from n (name ∷ names) = row (drop 4 (bytes name)) n ∷ rows_from (suc n) names
-
--- rows one behind the other: length, number, bytes
-unfoldable pub flat : List Row → List ℕ
-flat [] = []
-flat (row w n ∷ xs) = length w ∷ n ∷ (w ++ flat xs)
-
--- ---- clauses
 
 -- what stands before a clause: nothing before the first, one space before any other
 abbrev pub separator : Bool → List ℕ

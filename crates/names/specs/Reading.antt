@@ -1,11 +1,11 @@
 -- What the reader answers for any bytes ("Say it in names"): read from the front, byte by byte, while some well-formed text can go on so. Assumes nothing.
 -- That these are the grammar's texts and sets, and the place the length of the longest beginning, is the statement in ByTheGrammar.antt.
-use Rattle.std.specs.Prelude.{ℕ, suc, List, [], ◌∷◌, Bool, true, false, cond, ◌&&◌, eqb}
+use Rattle.std.specs.Prelude.{ℕ, suc, List, [], ◌∷◌, Bool, true, false, cond, ◌&&◌, eqb, Result, Ok, Err}
 use Rattle.capabilities.specs.Sets.{full, union}
 use Rattle.format.specs.Line.{bytes}
 use Rattle.names.specs.declared.Sets.{Sets}
-use Rattle.names.specs.declared.Reading.{Reading}
-use Rattle.names.specs.declared.Reading.TheVariants.{Means, Malformed}
+use Rattle.names.specs.declared.ReadError.{ReadError}
+use Rattle.names.specs.declared.ReadError.TheVariants.{Malformed}
 use Rattle.names.specs.Grammar.{comma, equals, plus, dash, blank, flag, lower, Word, spelt, names, flagged, without, no_sets}
 
 -- `all`: it means all 41, and stands by itself
@@ -61,22 +61,26 @@ step (operated gives ends c s) b =
     cond (flag b) (go (operated gives true c (flagged gives c b s)))
     (cond ends (cond (blank b) (go (gap s)) (operator c s b)) stuck)
 
+-- what a text is read as: its sets, or the place at which it is malformed
+abbrev pub Reading : Type 0
+Reading = Result Sets ReadError
+
 -- the end of the text: between clauses, or where a clause can end
 abbrev pub finish : State → Reading
-finish (gap s) = Means s
-finish (word xs c s) = Malformed 0
-finish (operated gives true c s) = Means s
-finish (operated gives false c s) = Malformed 0
+finish (gap s) = Ok s
+finish (word xs c s) = Err (Malformed 0)
+finish (operated gives true c s) = Ok s
+finish (operated gives false c s) = Err (Malformed 0)
 
 -- what is read behind one byte: a place is one further on
 abbrev pub later : Reading → Reading
-later (Means s) = Means s
-later (Malformed n) = Malformed (suc n)
+later (Ok s) = Ok s
+later (Err (Malformed n)) = Err (Malformed (suc n))
 
 -- what is read behind a byte that can stand there; one that cannot is at fault
 abbrev pub told : Step → (State → Reading) → Reading
 told (go s) f = later (f s)
-told stuck f = Malformed 0
+told stuck f = Err (Malformed 0)
 
 -- a text read from a state
 unfoldable pub run : State → List ℕ → Reading

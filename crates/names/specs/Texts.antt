@@ -1,12 +1,12 @@
 -- Texts in names and what they come to, as the request says ("Say it in names"): sets, places, written forms, answers and buffers.
 -- proofs/Applied.antt proves the statement at the end by computing both sides; `vectors` runs further texts. Assumes nothing.
-use Rattle.std.specs.Prelude.{ℕ, ◌≡◌, List, [], ◌∷◌, ◌++◌, replicate}
-use Rattle.attribute.specs.Writer.{refused}
+use Rattle.std.specs.Prelude.{ℕ, ◌≡◌, List, [], ◌∷◌, ◌++◌, replicate, Ok, Err}
+use Rattle.attribute.specs.Writer.{write_code}
+use Rattle.attribute.specs.declared.WriteError.TheVariants.{OutOfRange, NoRoom}
 use Rattle.format.specs.Line.{bytes}
 use Rattle.names.specs.declared.Sets.{Sets}
-use Rattle.names.specs.declared.Reading.{Reading}
-use Rattle.names.specs.declared.Reading.TheVariants.{Means, Malformed}
-use Rattle.names.specs.Reading.{read_text}
+use Rattle.names.specs.declared.ReadError.TheVariants.{Malformed}
+use Rattle.names.specs.Reading.{Reading, read_text}
 use Rattle.names.specs.Writing.{sets_text, names_answer, names_buffer}
 
 -- a permitted, an inheritable and an effective set
@@ -15,7 +15,7 @@ sets p i e = record { permitted = p; inheritable = i; effective = e }
 
 -- what these three sets are read as
 abbrev pub means : ℕ → ℕ → ℕ → Reading
-means p i e = Means (sets p i e)
+means p i e = Ok (sets p i e)
 
 -- every name, and no two neighbours with the same flags
 abbrev pub every_name : List ℕ
@@ -39,7 +39,7 @@ pub record TextsHold : Type 0 where
   -- `+` gives: CAP_NET_RAW to the effective and the permitted set
   pub net_raw_read : read_text (bytes "cap_net_raw+ep") ≡ means 0x2000 0 0x2000
   -- every name means its capability
-  pub every_name_read : read_text every_name ≡ Means every_name_sets
+  pub every_name_read : read_text every_name ≡ Ok every_name_sets
   -- text without a clause is three empty sets
   pub empty : read_text [] ≡ means 0 0 0
   pub only_blanks : read_text (bytes " \n\t") ≡ means 0 0 0
@@ -62,42 +62,44 @@ pub record TextsHold : Type 0 where
   -- a later clause undoes an earlier one
   pub clauses : read_text (bytes "cap_kill=eip cap_chown+e cap_kill-eip") ≡ means 0 0 1
   -- a clause without names begins with `=`
-  pub plus_first : read_text (bytes "+e") ≡ Malformed 0
-  pub dash_first : read_text (bytes "cap_kill=e -e") ≡ Malformed 11
+  pub plus_first : read_text (bytes "+e") ≡ Err (Malformed 0)
+  pub dash_first : read_text (bytes "cap_kill=e -e") ≡ Err (Malformed 11)
   -- `all` stands alone
-  pub all_joined : read_text (bytes "all,cap_chown=e") ≡ Malformed 3
-  pub joined_all : read_text (bytes "cap_chown,all=e") ≡ Malformed 10
+  pub all_joined : read_text (bytes "all,cap_chown=e") ≡ Err (Malformed 3)
+  pub joined_all : read_text (bytes "cap_chown,all=e") ≡ Err (Malformed 10)
   -- text that only stops too early has its whole length as its place
-  pub no_operator : read_text (bytes "cap_net_raw") ≡ Malformed 11
-  pub within_a_name : read_text (bytes "cap_net_r") ≡ Malformed 9
-  pub no_flag : read_text (bytes "cap_kill+") ≡ Malformed 9
-  pub no_name : read_text (bytes "cap_kill,") ≡ Malformed 9
+  pub no_operator : read_text (bytes "cap_net_raw") ≡ Err (Malformed 11)
+  pub within_a_name : read_text (bytes "cap_net_r") ≡ Err (Malformed 9)
+  pub no_flag : read_text (bytes "cap_kill+") ≡ Err (Malformed 9)
+  pub no_name : read_text (bytes "cap_kill,") ≡ Err (Malformed 9)
   -- `+` and `-` need a flag
-  pub flag_due : read_text (bytes "cap_kill+ cap_chown=e") ≡ Malformed 9
-  pub flag_due_first : read_text (bytes "cap_kill-=e") ≡ Malformed 9
+  pub flag_due : read_text (bytes "cap_kill+ cap_chown=e") ≡ Err (Malformed 9)
+  pub flag_due_first : read_text (bytes "cap_kill-=e") ≡ Err (Malformed 9)
   -- flags are lower case
-  pub upper_case_flag : read_text (bytes "cap_kill=eE") ≡ Malformed 10
+  pub upper_case_flag : read_text (bytes "cap_kill=eE") ≡ Err (Malformed 10)
   -- a name goes on as some name does
-  pub other_name : read_text (bytes "cap_net_bind_server=e") ≡ Malformed 17
+  pub other_name : read_text (bytes "cap_net_bind_server=e") ≡ Err (Malformed 17)
   -- numbers are no names
-  pub number : read_text (bytes "cap_kill=e 5=e") ≡ Malformed 11
+  pub number : read_text (bytes "cap_kill=e 5=e") ≡ Err (Malformed 11)
   -- no blank stands within a clause, nor a comma behind flags
-  pub blank_within : read_text (bytes "cap_kill =e") ≡ Malformed 8
-  pub comma_behind : read_text (bytes "cap_kill=e,cap_chown=e") ≡ Malformed 10
+  pub blank_within : read_text (bytes "cap_kill =e") ≡ Err (Malformed 8)
+  pub comma_behind : read_text (bytes "cap_kill=e,cap_chown=e") ≡ Err (Malformed 10)
   -- no other byte parts clauses
-  pub carriage_return : read_text (bytes "cap_kill=e" ++ (13 ∷ [])) ≡ Malformed 10
+  pub carriage_return : read_text (bytes "cap_kill=e" ++ (13 ∷ [])) ≡ Err (Malformed 10)
   -- the written form: one clause to a capability, by number, flags in the order e, i, p after `=`, one space between
   pub written : sets_text (sets 0x2001 0x20 0x2020) ≡ bytes "cap_chown=p cap_kill=ei cap_net_raw=ep"
   pub every_name_written : sets_text every_name_sets ≡ every_name
   -- three empty sets are the empty text, which fits a buffer of no bytes
-  pub nothing_written : names_answer (sets 0 0 0) 0 ≡ record { code = 0; length = 0 }
+  pub nothing_written : names_answer (sets 0 0 0) 0 ≡ Ok 0
   -- 22 for a bit above 40 in any of the three, and that comes before 28
-  pub above_permitted : names_answer (sets 0x20000000000 0 0) 748 ≡ refused 22
-  pub above_inheritable : names_answer (sets 0 0x8000000000000000 0) 748 ≡ refused 22
-  pub above_effective : names_answer (sets 1 1 0x20000000001) 0 ≡ refused 22
+  pub above_permitted : names_answer (sets 0x20000000000 0 0) 748 ≡ Err OutOfRange
+  pub above_inheritable : names_answer (sets 0 0x8000000000000000 0) 748 ≡ Err OutOfRange
+  pub above_effective : names_answer (sets 1 1 0x20000000001) 0 ≡ Err OutOfRange
   -- 28 for a buffer that is too short, and else the text's length
-  pub no_room : names_answer (sets 1 0 0) 10 ≡ refused 28
-  pub room : names_answer (sets 1 0 0) 11 ≡ record { code = 0; length = 11 }
+  pub no_room : names_answer (sets 1 0 0) 10 ≡ Err NoRoom
+  pub room : names_answer (sets 1 0 0) 11 ≡ Ok 11
+  -- the numbers of both
+  pub refusals_told : (write_code OutOfRange ≡ 22) × (write_code NoRoom ≡ 28)
   -- bytes past the text stay; where the writer refuses, all bytes do
   pub buffer : names_buffer (sets 1 0 0) (sevens 13) ≡ bytes "cap_chown=p" ++ (7 ∷ 7 ∷ [])
   pub refused_buffer : names_buffer (sets 1 0 0) (sevens 10) ≡ sevens 10

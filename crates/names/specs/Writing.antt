@@ -1,8 +1,9 @@
 -- The one form in which sets are written in names, and what the writer answers and leaves ("Say it in names"). Assumes nothing.
-use Rattle.std.specs.Prelude.{ℕ, suc, List, [], ◌∷◌, ◌++◌, Bool, cond, ◌||◌, eqb, leb, length, drop}
+use Rattle.std.specs.Prelude.{ℕ, suc, List, [], ◌∷◌, ◌++◌, Bool, cond, ◌||◌, leb, length, Result, Ok, Err}
 use Prim.Native.String.{String}
-use Rattle.attribute.specs.Writer.{refused}
-use Rattle.attribute.specs.declared.Written.{Written}
+use Rattle.attribute.specs.Writer.{left_by}
+use Rattle.attribute.specs.declared.WriteError.{WriteError}
+use Rattle.attribute.specs.declared.WriteError.TheVariants.{OutOfRange, NoRoom}
 use Rattle.capabilities.specs.Sets.{full, union, has, outside}
 use Rattle.format.specs.Line.{bytes}
 use Rattle.names.specs.declared.Sets.{Sets}
@@ -48,12 +49,12 @@ sets_text s = spaced (clauses s 0 capability_names)
 unfoldable pub bits_above40 : Sets → Bool
 bits_above40 s = outside (union s.permitted (union s.inheritable s.effective)) full
 
--- its answer in a buffer of some length: 22, then 28, each with 0 bytes; or 0 and the text's length
-unfoldable pub names_answer : Sets → ℕ → Written
+-- its answer in a buffer of some length: 22 for such a bit, then 28 for a text that is longer; or done, and the text's length
+unfoldable pub names_answer : Sets → ℕ → Result ℕ WriteError
 names_answer s room =
-    cond (bits_above40 s) (refused 22)
-    (cond (leb (length (sets_text s)) room) (record { code = 0; length = length (sets_text s) }) (refused 28))
+    cond (bits_above40 s) (Err OutOfRange)
+    (cond (leb (length (sets_text s)) room) (Ok (length (sets_text s))) (Err NoRoom))
 
 -- the buffer afterwards: the text and past it what was there; refused, all of what was there
 unfoldable pub names_buffer : Sets → List ℕ → List ℕ
-names_buffer s old = cond (eqb (names_answer s (length old)).code 0) (sets_text s ++ drop (length (sets_text s)) old) old
+names_buffer s old = left_by (names_answer s (length old)) (sets_text s) old

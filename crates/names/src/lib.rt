@@ -4,16 +4,16 @@
 #![tactic(auto)]
 
 // The three sets that a text stands for.
-#[derive(Clone, Copy)]
+#[derive(Clone, Copy, Debug, Default, PartialEq, Eq)]
 pub struct Sets {
     pub permitted: u64,
     pub inheritable: u64,
     pub effective: u64,
 }
 
-// What a text is read as: its sets, or refused: malformed (70) at a place, the length of its longest beginning.
-#[derive(Clone, Copy)]
-pub enum Reading {
-    Means(Sets),
+// Why a text cannot be read: malformed (70) at a place, the length of its longest beginning.
+// `status` has a ReadError too: each is of a text of its own, here at a place, there at a line, and neither crate stands on the other.
+#[derive(Clone, Copy, Debug, PartialEq, Eq)]
+pub enum ReadError {
     Malformed(usize),
 }

@@ -1,38 +1,40 @@
 -- How far a word and a text agree. Assumes nothing.
-use mathlib.Core.Path.{◌≡◌, refl}
+use mathlib.Core.Path.{◌≡◌, refl, sym, ap, ◌∙◌}
 use mathlib.Core.List.{List, [], ◌∷◌}
 use mathlib.Core.Bool.{Bool, true, false, cond}
-use Prim.Native.Nat.{ℕ, suc, ◌+◌, ◌≤◌, ◌<◌}
-use native.Mathlib.Numerals.{add-one}
+use Prim.Native.Nat.{ℕ, suc, ◌-◌, ◌≤◌}
 use native.Mathlib.Omega.{arith}
 use lib.Dec.{eqb}
-use lib.ListN.{length, drop, get_or, take, drop_of_length-le}
-use lib.Seq.{drop-cons}
+use lib.ListN.{length, take, drop, length-drop}
+use lib.Seq.{take-length}
 use borrow.Author.Tests.{eqb-true}
+use Rattle.std.specs.Prelude.{◌==◌}
+use Rattle.std.specs.List.{zip, take_while}
+use Rattle.std.proofs.lemmas.List.Sums.{take_while-cons}
 use Rattle.names.specs.Grammar.{lower, lowered}
 use Rattle.names_reader.specs.Inside.{common}
 
-pub common_step : (key text : List ℕ) (k i j n : ℕ) → k < length key → i < length text → j ≡ i + 1
-    → n + common (drop k key) (drop i text) ≡ cond (eqb (lower (get_or text i 0)) (get_or key k 0)) (n + 1 + common (drop (k + 1) key) (drop j text)) n
-unfolding common
-common_step key text k i j n h g e =
-    rw (drop-cons key k 0 h, drop-cons text i 0 g, e, add-one i, add-one k) (by_test (eqb (lower (get_or text i 0)) (get_or key k 0)) _)
-  where
-    by_test : (p : Bool) (m : ℕ) → n + cond p (suc m) 0 ≡ cond p (n + 1 + m) n
-    by_test true m = omega arith
-    by_test false m = omega arith
+-- what `&text[at..]` is
+pub rest : (at : ℕ) (t : List ℕ) → take (length t - at) (drop at t) ≡ drop at t
+rest at t = ap (λ (n : ℕ). take n (drop at t)) (sym (length-drop at t)) ∙ take-length (drop at t)
 
 pub common_nil : (ks : List ℕ) → common ks [] ≡ 0
 unfolding common
 common_nil [] = refl
 common_nil (k ∷ ks) = refl
 
-pub common_short : (ks text : List ℕ) (i n : ℕ) → length text ≤ i → n + common ks (drop i text) ≡ n
-common_short ks text i n h = rw (drop_of_length-le text h, common_nil ks) (omega arith)
-
-pub common_end : (key t : List ℕ) (k n : ℕ) → length key ≤ k → n + common (drop k key) t ≡ n
+-- how many pairs from the front agree
+pub common_pairs : (key t : List ℕ) → length (take_while (λ (p : ℕ × ℕ). lower p.0 == p.1) (zip t key)) ≡ common key t
 unfolding common
-common_end key t k n h = rw (drop_of_length-le key h) (omega arith)
+common_pairs [] [] = refl
+common_pairs [] (b ∷ t) = refl
+common_pairs (k ∷ key) [] = refl
+common_pairs (k ∷ key) (b ∷ t) = rw take_while-cons (by_test (eqb (lower b) k) (common_pairs key t))
+  where
+    by_test : (p : Bool) → length (take_while (λ (q : ℕ × ℕ). lower q.0 == q.1) (zip t key)) ≡ common key t
+        → length (cond p ((b, k) ∷ take_while (λ (q : ℕ × ℕ). lower q.0 == q.1) (zip t key)) []) ≡ cond p (suc (common key t)) 0
+    by_test true e = ap suc e
+    by_test false e = refl
 
 pub common_le : (w t : List ℕ) → (common w t ≤ length w) × (common w t ≤ length t)
 unfolding common

@@ -12,36 +12,31 @@ use lib.Seq.{drop-drop}
 use Rattle.capabilities.specs.Sets.{single, full, union}
 use Rattle.format.specs.Line.{bytes}
 use Rattle.names.specs.declared.Sets.{Sets}
-use Rattle.names.specs.declared.Reading.{Reading}
-use Rattle.names.specs.declared.Reading.TheVariants.{Means, Malformed}
+use Rattle.std.specs.Prelude.{Ok, Err}
+use Rattle.names.specs.declared.ReadError.{ReadError}
+use Rattle.names.specs.declared.ReadError.TheVariants.{Malformed}
 use Rattle.names.specs.Names.{capability_names}
 use Rattle.names.specs.Grammar.{no_sets, lower, lowered, Word, spelt, names, ◌among◌}
-use Rattle.names.specs.Reading.{read_text, gap, every, after, word, operated, Step, go, stuck, later, told, past, within, step, run}
+use Rattle.names.specs.Reading.{Reading, read_text, gap, every, after, word, operated, Step, go, stuck, later, told, past, within, step, run}
 use Rattle.names.proofs.Words.{afters, among_after, alone_names}
-use Rattle.names_reader.specs.declared.Name.{Name}
-use Rattle.names_reader.specs.declared.Name.TheVariants.{Is, Missing}
-use Rattle.names_reader.specs.declared.Subject.{Subject}
-use Rattle.names_reader.specs.declared.Subject.TheVariants.{Of}
-use Rattle.names_reader.specs.declared.Subject.TheVariants as SV
-use Rattle.names.specs.Inside.{Row, row, rows_from}
-use Rattle.names_reader.specs.Inside.{from, read_at, common, rows, OneOf, find, Found, NameTold, NameEnd, NamesTold, SubjectEnd, operates}
-use Rattle.names_reader.proofs.Steps.{read_go, read_stuck, read_end, read_same, done_operator, done_comma, done_stuck}
+use Rattle.names_reader.specs.Inside.{Row, row, rows_from, Parsed, from, read_at, common, rows, OneOf, find, Found, NameTold, NameEnd, NamesTold, SubjectEnd, operates}
+use Rattle.names_reader.proofs.Steps.{gap_blank, read_go, read_stuck, read_end, read_same, done_operator, done_comma, done_stuck}
 use Rattle.names_reader.proofs.Common.{common_nil, common_le, common_whole}
 use Rattle.names_reader.proofs.Rows.{furthest, NoneAt, sorted_missing, one_sorted}
 
 -- ---- a word that stands there is read
 
 from_none : (r : Reading) → r ≡ from 0 r
-from_none (Means s) = refl
-from_none (Malformed n) = ap Malformed (sym (zero-add n))
+from_none (Ok s) = refl
+from_none (Err (Malformed n)) = ap (λ (n : ℕ). Err (Malformed n)) (sym (zero-add n))
 
 later_from : (n : ℕ) (r : Reading) → later (from n r) ≡ from (suc n) r
-later_from n (Means s) = refl
-later_from n (Malformed k) = let e : suc (n + k) ≡ suc n + k = omega arith in ap Malformed e
+later_from n (Ok s) = refl
+later_from n (Err (Malformed k)) = let e : suc (n + k) ≡ suc n + k = omega arith in ap (λ (n : ℕ). Err (Malformed n)) e
 
 from_from : (n m : ℕ) (r : Reading) → from n (from m r) ≡ from (n + m) r
-from_from n m (Means s) = refl
-from_from n m (Malformed k) = let e : n + (m + k) ≡ n + m + k = omega arith in ap Malformed e
+from_from n m (Ok s) = refl
+from_from n m (Err (Malformed k)) = let e : n + (m + k) ≡ n + m + k = omega arith in ap (λ (n : ℕ). Err (Malformed n)) e
 
 within_some : (x : Word) (xs : List Word) (c : ℕ) (s : Sets) (o : Step) → x among xs → within xs c s o ≡ go (word xs c s)
 unfolding ◌among◌
@@ -111,18 +106,18 @@ past_none [] c s b t h = refl
 past_none (spelt [] m j ∷ xs) c s b t h = absurd (h.0 refl)
 past_none (spelt (k ∷ ks) m j ∷ xs) c s b t h = refl
 
-none_step : (ys : List Word) (c : ℕ) (s : Sets) (t : List ℕ) (o : Step) → o ≡ stuck → (run (word ys c s) t ≡ Malformed (longest ys t))
-    → told (within ys c s o) (λ n. run n t) ≡ Malformed (grown ys t)
+none_step : (ys : List Word) (c : ℕ) (s : Sets) (t : List ℕ) (o : Step) → o ≡ stuck → (run (word ys c s) t ≡ Err (Malformed (longest ys t)))
+    → told (within ys c s o) (λ n. run n t) ≡ Err (Malformed (grown ys t))
 unfolding grown
 none_step [] c s t o e i = rw e
 none_step (y ∷ ys) c s t o e i = ap later i
 
-none_read : (t : List ℕ) (xs : List Word) (c : ℕ) (s : Sets) → NoneWhole xs t → run (word xs c s) t ≡ Malformed (longest xs t)
+none_read : (t : List ℕ) (xs : List Word) (c : ℕ) (s : Sets) → NoneWhole xs t → run (word xs c s) t ≡ Err (Malformed (longest xs t))
 unfolding run step
-none_read [] xs c s h = ap Malformed (sym (longest_nil xs))
+none_read [] xs c s h = ap (λ (n : ℕ). Err (Malformed n)) (sym (longest_nil xs))
 none_read (b ∷ t) xs c s h =
     none_step (after (lower b) xs) c s t (past xs c s b) (past_none xs c s b (b ∷ t) h) (none_read t (after (lower b) xs) c s (none_after xs b t h))
-    ∙ ap Malformed (sym (longest_cons xs b t))
+    ∙ ap (λ (n : ℕ). Err (Malformed n)) (sym (longest_cons xs b t))
 
 -- ---- all names begin with `cap_`
 
@@ -203,14 +198,14 @@ rows_less t h = longest_less t h _ _ _
 -- ---- the name at a position
 
 module _ (text : List ℕ) (at : ℕ) where
-  pub name_cut : common cap (drop at text) < 4 → NameTold (Missing (at + common cap (drop at text))) text at
+  pub name_cut : common cap (drop at text) < 4 → NameTold (Err (Malformed (at + common cap (drop at text)))) text at
   unfolding read_at
   name_cut h c s =
       sym (ap (λ (xs : List Word). from at (run (word xs c s) (drop at text))) names_worded
       ∙ ap (from at) (none_read (drop at text) (worded unsorted) c s (none_less (drop at text) h unsorted))
-      ∙ ap (λ (n : ℕ). Malformed (at + n)) (rows_less (drop at text) h))
+      ∙ ap (λ (n : ℕ). Err (Malformed (at + n))) (rows_less (drop at text) h))
 
-  name_missing : (p : ℕ) → common cap (drop at text) ≡ 4 → find (at + 4) 0 rows (drop (at + 4) text) ≡ Missing p → NameTold (Missing p) text at
+  name_missing : (p : ℕ) → common cap (drop at text) ≡ 4 → find (at + 4) 0 rows (drop (at + 4) text) ≡ Err (Malformed p) → NameTold (Err (Malformed p)) text at
   unfolding read_at rows
   name_missing p h e c s =
       let f = sorted_missing (at + 4) unsorted (drop (at + 4) text) p e in
@@ -218,14 +213,14 @@ module _ (text : List ℕ) (at : ℕ) where
       let k : p ≡ at + (4 + furthest unsorted (drop (at + 4) text)) = omega (arith, f.1) in
       sym (ap (λ (xs : List Word). from at (run (word xs c s) (drop at text))) names_worded
       ∙ ap (from at) (none_read (drop at text) (worded unsorted) c s (none_more (drop at text) h unsorted (rw d f.0)))
-      ∙ ap (λ (n : ℕ). Malformed (at + n)) (rows_more (drop at text) h ∙ ap (λ (u : List ℕ). 4 + furthest unsorted u) d)
-      ∙ ap Malformed (sym k))
+      ∙ ap (λ (n : ℕ). Err (Malformed (at + n))) (rows_more (drop at text) h ∙ ap (λ (u : List ℕ). 4 + furthest unsorted u) d)
+      ∙ ap (λ (n : ℕ). Err (Malformed n)) (sym k))
 
   row_named : (w : List ℕ) (n : ℕ) → OneOf (row w n) rows → spelt (cap ++ w) (single n) true among names
   unfolding rows
   row_named w n o = rw names_worded (one_among w n unsorted (one_sorted (row w n) unsorted o))
 
-  name_found : (n next : ℕ) → common cap (drop at text) ≡ 4 → Found (Is n next) (at + 4) (drop (at + 4) text) → NameTold (Is n next) text at
+  name_found : (n next : ℕ) → common cap (drop at text) ≡ 4 → Found (Ok (n, next)) (at + 4) (drop (at + 4) text) → NameTold (Ok (n, next)) text at
   unfolding read_at
   name_found n next h e c s =
       let t = drop at text in
@@ -244,16 +239,16 @@ module _ (text : List ℕ) (at : ℕ) where
       ∙ from_from at (length (take k t)) (run (word (afters (lowered (take k t)) names) c s) (drop k t))
       ∙ rw (l, y, alone_names w (single n) true g, drop-drop k at text, ← m))
 
-  name_ends : (n next : ℕ) → common cap (drop at text) ≡ 4 → Found (Is n next) (at + 4) (drop (at + 4) text) → (at ≤ next) × (next ≤ length text)
+  name_ends : (n next : ℕ) → common cap (drop at text) ≡ 4 → Found (Ok (n, next)) (at + 4) (drop (at + 4) text) → (at ≤ next) × (next ≤ length text)
   name_ends n next h e =
       let (w, o, u, v) = e in
       let a = (common_le w (drop (at + 4) text)).1 in
       let b = (common_le cap (drop at text)).1 in
       (omega arith, omega (arith, length-drop (at + 4) text, length-drop at text))
 
-  pub name_told : (x : Name) → common cap (drop at text) ≡ 4 → Found x (at + 4) (drop (at + 4) text) → NameTold x text at × NameEnd x at text
-  name_told (Is n next) h e = (name_found n next h e, name_ends n next h e)
-  name_told (Missing p) h e = (name_missing p h e, tt)
+  pub name_told : (x : Parsed ℕ) → common cap (drop at text) ≡ 4 → Found x (at + 4) (drop (at + 4) text) → NameTold x text at × NameEnd x at text
+  name_told (Ok (n, next)) h e = (name_found n next h e, name_ends n next h e)
+  name_told (Err (Malformed p)) h e = (name_missing p h e, tt)
 
 -- ---- `all` at a position
 
@@ -266,10 +261,10 @@ unfolding afters after
 all_alone = refl
 
 module _ (text : List ℕ) (at : ℕ) where
-  pub all_cut : (n : ℕ) → n ≡ common (bytes "all") (drop at text) → (n ≡ 3 → ⊥) → (s : Sets) → read_at text at (word (every ∷ []) 0 s) ≡ Malformed (at + n)
+  pub all_cut : (n : ℕ) → n ≡ common (bytes "all") (drop at text) → (n ≡ 3 → ⊥) → (s : Sets) → read_at text at (word (every ∷ []) 0 s) ≡ Err (Malformed (at + n))
   unfolding read_at NoneWhole longest
   all_cut n e h s =
-      ap (from at) (none_read (drop at text) (every ∷ []) 0 s (λ q. h (e ∙ q), tt)) ∙ ap (λ (k : ℕ). Malformed (at + k)) (let z : max (common (bytes "all") (drop at text)) 0 ≡ n = omega arith in z)
+      ap (from at) (none_read (drop at text) (every ∷ []) 0 s (λ q. h (e ∙ q), tt)) ∙ ap (λ (k : ℕ). Err (Malformed (at + k))) (let z : max (common (bytes "all") (drop at text)) 0 ≡ n = omega arith in z)
 
   pub all_whole : (n : ℕ) → n ≡ common (bytes "all") (drop at text) → n ≡ 3 → (s : Sets)
       → read_at text at (word (every ∷ []) 0 s) ≡ read_at text (at + n) (word (spelt [] full false ∷ []) 0 s)
@@ -288,34 +283,44 @@ module _ (text : List ℕ) (at : ℕ) where
 -- ---- names joined, at a position
 
 module _ (text : List ℕ) (i all : ℕ) where
-  pub names_operator : i < length text → operates (get_or text i 0) ≡ true → NamesTold (Of all i) text i all
+  pub names_operator : i < length text → operates (get_or text i 0) ≡ true → NamesTold (Ok (all, i)) text i all
   names_operator h o s d m e =
       sym (read_same text i (word (spelt [] m true ∷ []) d s) (operated true true (union d m) s) h (done_operator d m true s (get_or text i 0) o)
       ∙ ap (λ (c : ℕ). read_at text i (operated true true c s)) e)
 
-  pub names_stuck : i < length text → operates (get_or text i 0) ≡ false → (get_or text i 0 ≡ 44 → ⊥) → NamesTold (SV.Missing i) text i all
+  pub names_stuck : i < length text → operates (get_or text i 0) ≡ false → (get_or text i 0 ≡ 44 → ⊥) → NamesTold (Err (Malformed i)) text i all
   names_stuck h o n s d m e = sym (read_stuck text i (word (spelt [] m true ∷ []) d s) h (done_stuck d m true s (get_or text i 0) o n))
 
-  pub names_end : length text ≤ i → NamesTold (SV.Missing i) text i all
-  names_end h s d m e = sym (read_end text i (word (spelt [] m true ∷ []) d s) h ∙ ap Malformed (add-zero i))
+  pub names_end : length text ≤ i → NamesTold (Err (Malformed i)) text i all
+  names_end h s d m e = sym (read_end text i (word (spelt [] m true ∷ []) d s) h ∙ ap (λ (n : ℕ). Err (Malformed n)) (add-zero i))
 
   comma_read : i < length text → get_or text i 0 ≡ 44 → (s : Sets) (d m : ℕ) → read_at text i (word (spelt [] m true ∷ []) d s) ≡ read_at text (i + 1) (word names (union d m) s)
   comma_read h b s d m = read_go text i (word (spelt [] m true ∷ []) d s) (word names (union d m) s) h (done_comma d m true s (get_or text i 0) b)
 
-  pub names_missing : (n : ℕ) → i < length text → get_or text i 0 ≡ 44 → NameTold (Missing n) text (i + 1) → NamesTold (SV.Missing n) text i all
-  names_missing n h b t s d m e = t (union d m) s ∙ sym (comma_read h b s d m)
+  pub names_missing : (e : ReadError) → i < length text → get_or text i 0 ≡ 44 → NameTold (Err e) text (i + 1) → NamesTold (Err e) text i all
+  names_missing e h b t s d m z = t (union d m) s ∙ sym (comma_read h b s d m)
 
-  pub names_next : (number next one : ℕ) → i < length text → get_or text i 0 ≡ 44 → NameTold (Is number next) text (i + 1) → one ≡ single number
-      → (r : Subject) → NamesTold r text next (union all one) → NamesTold r text i all
+  pub names_next : (number next one : ℕ) → i < length text → get_or text i 0 ≡ 44 → NameTold (Ok (number, next)) text (i + 1) → one ≡ single number
+      → (r : Parsed ℕ) → NamesTold r text next (union all one) → NamesTold r text i all
   names_next number next one h b t q r f s d m e =
       f s (union d m) (single number) (rw (e, q)) ∙ t (union d m) s ∙ sym (comma_read h b s d m)
 
 -- ---- further on, and at the start
 
-pub subject_end : (text : List ℕ) (at next : ℕ) (r : Subject) → at ≤ next → SubjectEnd r next text → SubjectEnd r at text
-subject_end text at next (Of c p) h e = (omega (arith, e.0), e.1)
-subject_end text at next (SV.Missing n) h e = tt
+pub subject_end : (text : List ℕ) (at next : ℕ) (r : Parsed ℕ) → at ≤ next → SubjectEnd r next text → SubjectEnd r at text
+subject_end text at next (Ok (c, p)) h e = (omega (arith, e.0), e.1)
+subject_end text at next (Err n) h e = tt
 
-pub read_start : (text : List ℕ) → read_text text ≡ read_at text 0 (gap no_sets)
+pub read_start : (text : List ℕ) (s : Sets) → (s.permitted ≡ 0) × ((s.inheritable ≡ 0) × (s.effective ≡ 0)) → read_text text ≡ read_at text 0 (gap s)
 unfolding read_text read_at
-read_start text = from_none (run (gap no_sets) text)
+read_start text s h =
+    let e : no_sets ≡ s = sym (ap (λ (n : ℕ). record { permitted = n; inheritable = s.inheritable; effective = s.effective }) h.0
+    ∙ ap (λ (n : ℕ). record { permitted = 0; inheritable = n; effective = s.effective }) h.1.0
+    ∙ ap (λ (n : ℕ). record { permitted = 0; inheritable = 0; effective = n }) h.1.1) in
+    from_none (run (gap no_sets) text) ∙ ap (λ (v : Sets). from 0 (run (gap v) text)) e
+
+-- ---- what a loop or a function goes by
+
+pub ruleset between = (read_start, read_go, read_end, gap_blank)
+
+pub ruleset naming = (name_told, name_cut)

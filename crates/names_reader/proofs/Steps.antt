@@ -13,15 +13,15 @@ use lib.ListN.{drop_of_length-le}
 use borrow.Author.Tests.{ne_eqb, eqb-true}
 use Rattle.capabilities.specs.Sets.{union, full}
 use Rattle.names.specs.declared.Sets.{Sets}
-use Rattle.names.specs.declared.Reading.{Reading}
-use Rattle.names.specs.declared.Reading.TheVariants.{Means, Malformed}
+use Rattle.std.specs.Prelude.{Ok, Err}
+use Rattle.names.specs.declared.ReadError.TheVariants.{Malformed}
 use Rattle.names.specs.Grammar.{lower, blank, flag, equals, plus, dash, flagged, Word, spelt, names}
-use Rattle.names.specs.Reading.{every, after, State, gap, word, operated, Step, go, stuck, finish, later, told, operator, past, within, step, run}
+use Rattle.names.specs.Reading.{Reading, every, after, State, gap, word, operated, Step, go, stuck, finish, later, told, operator, past, within, step, run}
 use Rattle.names_reader.specs.Inside.{from, read_at, operates, begun}
 
 from_later : (i : ℕ) (r : Reading) → from i (later r) ≡ from (i + 1) r
-from_later i (Means s) = refl
-from_later i (Malformed n) = let e : i + suc n ≡ i + 1 + n = omega arith in rw e
+from_later i (Ok s) = refl
+from_later i (Err (Malformed n)) = let e : i + suc n ≡ i + 1 + n = omega arith in rw e
 
 module _ (text : List ℕ) (i : ℕ) where
   read_told : (x : State) → i < length text → read_at text i x ≡ from i (told (step x (get_or text i 0)) (λ next. run next (drop (suc i) text)))
@@ -34,8 +34,8 @@ module _ (text : List ℕ) (i : ℕ) where
       read_told x h ∙ ap (λ (y : Step). from i (told y (λ n. run n (drop (suc i) text)))) e ∙ from_later i (run next (drop (suc i) text))
       ∙ ap (λ (k : ℕ). from (i + 1) (run next (drop k text))) (sym (add-one i))
 
-  pub read_stuck : (x : State) → i < length text → step x (get_or text i 0) ≡ stuck → read_at text i x ≡ Malformed i
-  read_stuck x h e = read_told x h ∙ ap (λ (y : Step). from i (told y (λ n. run n (drop (suc i) text)))) e ∙ ap Malformed (add-zero i)
+  pub read_stuck : (x : State) → i < length text → step x (get_or text i 0) ≡ stuck → read_at text i x ≡ Err (Malformed i)
+  read_stuck x h e = read_told x h ∙ ap (λ (y : Step). from i (told y (λ n. run n (drop (suc i) text)))) e ∙ ap (λ (n : ℕ). Err (Malformed n)) (add-zero i)
 
   pub read_end : (x : State) → length text ≤ i → read_at text i x ≡ from i (finish x)
   unfolding read_at run
@@ -150,3 +150,9 @@ module _ (s : Sets) (b : ℕ) where
 
   pub gap_name : blank b ≡ false → (b ≡ 61 → ⊥) → (lower b ≡ 97 → ⊥) → step (gap s) b ≡ step (word names 0 s) b
   gap_name h n e = gap_first s b h n ∙ ap (λ (xs : List Word). within xs 0 s stuck) (first_name (lower b) e) ∙ sym (names_first s b)
+
+-- ---- what a loop or a function goes by
+
+pub ruleset operators = (read_go, read_stuck, read_end, operated_flag, operated_stuck, operated_blank, operated_operator, operator_begun, operator_stuck)
+
+pub ruleset first_byte = (read_same, gap_put, gap_all)

@@ -1,29 +1,27 @@
 -- How the answers of private functions stand for the reading from a position, and the table that names are found by; no public contract cites these.
 -- Assumes nothing.
-use Rattle.std.specs.Prelude.{◌≡◌, ℕ, zero, suc, ◌+◌, ◌-◌, ◌*◌, ◌%◌, max, ◌≤◌, ◌<◌, ◌⊎◌, List, [], ◌∷◌, ◌++◌, Bool, true, cond, ◌&&◌, ◌||◌, eqb, leb, ltb, length, drop, get_or, replicate}
+use Rattle.std.specs.Prelude.{◌≡◌, ℕ, zero, suc, ◌+◌, ◌*◌, ◌%◌, max, ◌≤◌, ◌<◌, ◌⊎◌, List, [], ◌∷◌, Bool, true, cond, ◌&&◌, ◌||◌, eqb, leb, ltb, length, drop, get_or, Result, Ok, Err}
+use denote.Ref.{Bor}
 use Rattle.capabilities.specs.Sets.{single, union}
 use Rattle.names.specs.declared.Sets.{Sets}
-use Rattle.names.specs.declared.Reading.{Reading}
-use Rattle.names.specs.declared.Reading.TheVariants.{Means, Malformed}
+use Rattle.names.specs.declared.ReadError.{ReadError}
+use Rattle.names.specs.declared.ReadError.TheVariants.{Malformed}
 use Rattle.names.specs.Names.{capability_names}
-use Rattle.names.specs.Inside.{Row, row, rows_from}
+use Prim.Native.String.{String}
+use Rattle.format.specs.Line.{bytes}
 use Rattle.names.specs.Grammar.{lower, equals, plus, dash, without, spelt, names}
-use Rattle.names.specs.Reading.{every, State, gap, word, operated, run}
-use Rattle.names_reader.specs.declared.Clause.{Clause}
-use Rattle.names_reader.specs.declared.Clause.TheVariants.{Ended, Stuck}
-use Rattle.names_reader.specs.declared.Subject as S
-use Rattle.names_reader.specs.declared.Subject.TheVariants.{Of}
-use Rattle.names_reader.specs.declared.Subject.TheVariants as SV
-use Rattle.names_reader.specs.declared.Name as N
-use Rattle.names_reader.specs.declared.Name.TheVariants.{Is}
-use Rattle.names_reader.specs.declared.Name.TheVariants as NV
+use Rattle.names.specs.Reading.{Reading, every, State, gap, word, operated, run}
+
+-- a part of a text that was read, and the position past it; or the place of a fault
+abbrev pub Parsed : Type 0 → Type 0
+Parsed A = Result (A × ℕ) ReadError
 
 -- ---- reading from a position
 
 -- what is read n bytes further on
 abbrev pub from : ℕ → Reading → Reading
-from n (Means s) = Means s
-from n (Malformed k) = Malformed (n + k)
+from n (Ok s) = Ok s
+from n (Err (Malformed k)) = Err (Malformed (n + k))
 
 -- a text read from a position, in a state
 unfoldable pub read_at : List ℕ → ℕ → State → Reading
@@ -38,57 +36,66 @@ abbrev pub begun : ℕ → ℕ → Sets → Sets
 begun b c s = cond (eqb b equals) (without c s) s
 
 -- what the text is read as behind a clause
-abbrev pub clause_read : Clause → List ℕ → Reading
-clause_read (Ended s next) text = read_at text next (gap s)
-clause_read (Stuck n) text = Malformed n
+abbrev pub clause_read : Parsed Sets → List ℕ → Reading
+clause_read (Ok (s, next)) text = read_at text next (gap s)
+clause_read (Err e) text = Err e
 
 -- a clause ends further on
-abbrev pub ClauseEnd : Clause → ℕ → Type 0
-ClauseEnd (Ended s next) at = at < next
-ClauseEnd (Stuck n) at = Unit
+abbrev pub ClauseEnd : Parsed Sets → ℕ → Type 0
+ClauseEnd (Ok (s, next)) at = at < next
+ClauseEnd (Err e) at = Unit
 
 -- so do operators, where the text goes on
-abbrev pub OperatorsEnd : Clause → ℕ → List ℕ → Type 0
-OperatorsEnd (Ended s next) at text = at < length text → at < next
-OperatorsEnd (Stuck n) at text = Unit
+abbrev pub OperatorsEnd : Parsed Sets → ℕ → List ℕ → Type 0
+OperatorsEnd (Ok (s, next)) at text = at < length text → at < next
+OperatorsEnd (Err e) at text = Unit
 
 -- what the text is read as behind those whom a clause is about
-abbrev pub subject_read : S.Subject → List ℕ → Sets → Reading
-subject_read (Of c next) text s = read_at text next (operated true true c s)
-subject_read (SV.Missing n) text s = Malformed n
+abbrev pub subject_read : Parsed ℕ → List ℕ → Sets → Reading
+subject_read (Ok (c, next)) text s = read_at text next (operated true true c s)
+subject_read (Err e) text s = Err e
 
 -- from the front of a clause
-abbrev pub SubjectTold : S.Subject → List ℕ → ℕ → Type 0
+abbrev pub SubjectTold : Parsed ℕ → List ℕ → ℕ → Type 0
 SubjectTold r text at = (s : Sets) → subject_read r text s ≡ read_at text at (gap s)
 
 -- behind names that mean c
-abbrev pub NamesTold : S.Subject → List ℕ → ℕ → ℕ → Type 0
+abbrev pub NamesTold : Parsed ℕ → List ℕ → ℕ → ℕ → Type 0
 NamesTold r text at c = (s : Sets) (d m : ℕ) → union d m ≡ c → subject_read r text s ≡ read_at text at (word (spelt [] m true ∷ []) d s)
 
 -- from the front of `all`
-abbrev pub AllTold : S.Subject → List ℕ → ℕ → Type 0
+abbrev pub AllTold : Parsed ℕ → List ℕ → ℕ → Type 0
 AllTold r text at = (s : Sets) → subject_read r text s ≡ read_at text at (word (every ∷ []) 0 s)
 
 -- they end no further back, where the text goes on
-abbrev pub SubjectEnd : S.Subject → ℕ → List ℕ → Type 0
-SubjectEnd (Of c next) at text = (at ≤ next) × (next < length text)
-SubjectEnd (SV.Missing n) at text = Unit
+abbrev pub SubjectEnd : Parsed ℕ → ℕ → List ℕ → Type 0
+SubjectEnd (Ok (c, next)) at text = (at ≤ next) × (next < length text)
+SubjectEnd (Err e) at text = Unit
 
 -- what the text is read as behind a name
-abbrev pub name_read : N.Name → List ℕ → ℕ → Sets → Reading
-name_read (Is number next) text c s = read_at text next (word (spelt [] (single number) true ∷ []) c s)
-name_read (NV.Missing n) text c s = Malformed n
+abbrev pub name_read : Parsed ℕ → List ℕ → ℕ → Sets → Reading
+name_read (Ok (number, next)) text c s = read_at text next (word (spelt [] (single number) true ∷ []) c s)
+name_read (Err e) text c s = Err e
 
 -- from the front of the name, whatever was read before it
-abbrev pub NameTold : N.Name → List ℕ → ℕ → Type 0
+abbrev pub NameTold : Parsed ℕ → List ℕ → ℕ → Type 0
 NameTold r text at = (c : ℕ) (s : Sets) → name_read r text c s ≡ read_at text at (word names c s)
 
 -- it ends no further back, within the text
-abbrev pub NameEnd : N.Name → ℕ → List ℕ → Type 0
-NameEnd (Is number next) at text = (at ≤ next) × (next ≤ length text)
-NameEnd (NV.Missing n) at text = Unit
+abbrev pub NameEnd : Parsed ℕ → ℕ → List ℕ → Type 0
+NameEnd (Ok (number, next)) at text = (at ≤ next) × (next ≤ length text)
+NameEnd (Err e) at text = Unit
 
 -- ---- the table
+
+-- a row: a name's bytes behind `cap_`, and its capability's number
+pub data Row : Type 0 where
+  row : List ℕ → ℕ → Row
+
+-- the rows of the capabilities from number n on
+unfoldable pub rows_from : ℕ → List String → List Row
+rows_from n [] = []
+rows_from n (name ∷ names) = row (drop 4 (bytes name)) n ∷ rows_from (suc n) names
 
 -- a row's name behind `cap_`, how long that is, and its number
 abbrev pub text_of : Row → List ℕ
@@ -115,23 +122,14 @@ unfoldable pub rows : List Row
 unfolding by_length put_in rows_from capability_names
 rows = by_length (rows_from 0 capability_names)
 
--- the row of number k
-abbrev pub row_at : ℕ → Row
-row_at k = get_or rows k (row [] 0)
+-- the row that an entry of the code's table is
+abbrev pub row_of : Bor (List ℕ) × ℕ → Row
+row_of x = row x.0.now x.1
 
 -- x is one of these rows
 unfoldable pub OneOf : Row → List Row → Type 0
 OneOf x [] = ⊥
 OneOf x (y ∷ ys) = (x ≡ y) ⊎ OneOf x ys
-
--- a name with as many zeros as make it 18 bytes
-abbrev pub cell : List ℕ → List ℕ
-cell w = w ++ replicate (18 - length w) 0
-
--- rows one behind the other, of 20 bytes each: length, number, name and zeros
-unfoldable pub padded : List Row → List ℕ
-padded [] = []
-padded (row w n ∷ xs) = length w ∷ n ∷ (cell w ++ padded xs)
 
 -- a number below 64 of four bytes
 abbrev pub hashed : ℕ → ℕ → ℕ → ℕ → ℕ
@@ -167,11 +165,11 @@ common (k ∷ ks) [] = 0
 common (k ∷ ks) (b ∷ t) = cond (eqb (lower b) k) (suc (common ks t)) 0
 
 -- the first of these rows at the front of a text, which stands at a position; or how far the text goes on as any does
-unfoldable pub find : ℕ → ℕ → List Row → List ℕ → N.Name
-find at best [] t = NV.Missing (at + best)
-find at best (row w n ∷ xs) t = cond (eqb (common w t) (length w)) (Is n (at + length w)) (find at (max best (common w t)) xs t)
+unfoldable pub find : ℕ → ℕ → List Row → List ℕ → Parsed ℕ
+find at best [] t = Err (Malformed (at + best))
+find at best (row w n ∷ xs) t = cond (eqb (common w t) (length w)) (Ok (n, at + length w)) (find at (max best (common w t)) xs t)
 
 -- what is found at the front of a text, which stands at a position: a row; or, where no row is there, how far the text goes on as any does
-abbrev pub Found : N.Name → ℕ → List ℕ → Type 0
-Found (Is n next) at t = (w : List ℕ) × OneOf (row w n) rows × (common w t ≡ length w) × (next ≡ at + length w)
-Found (NV.Missing p) at t = find at 0 rows t ≡ NV.Missing p
+abbrev pub Found : Parsed ℕ → ℕ → List ℕ → Type 0
+Found (Ok (n, next)) at t = (w : List ℕ) × OneOf (row w n) rows × (common w t ≡ length w) × (next ≡ at + length w)
+Found (Err e) at t = find at 0 rows t ≡ Err e

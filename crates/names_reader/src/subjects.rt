@@ -1,75 +1,62 @@
 // Whom a clause is about: names joined by commas, `all`, or nothing.
 ghost use Rattle.std.specs.Prelude.{◌≡◌, false, ◌≤◌, ◌<◌, length, get_or};
 ghost use Rattle.names.specs.Grammar.{blank};
-ghost use Rattle.names_reader.specs.Inside.{AllTold, NamesTold, padded, rows, SubjectEnd, SubjectTold};
+ghost use Rattle.names_reader.specs.Inside.{AllTold, NamesTold, SubjectEnd, SubjectTold};
 
-use crate::bytes::{COMMA, EQUALS, is_operator, lower};
-use crate::words::{common_at, name_at};
-use crate::{Name, Subject};
+use crate::Parsed;
+use crate::bytes::{COMMA, EQUALS, is_operator};
+use crate::words::{common, name_at};
 use capabilities::sets::{FULL, single};
+use names::ReadError;
 
-// How many bytes `all` has.
-const ALL_LENGTH: usize = 3;
-
-// Whom the clause at the position at is about.
-pub(crate) fn subject_at(text: &[u8], at: usize, table: &[u8], index: &[u8]) -> Subject
-    requires { (at < length text.now) × (blank (get_or text.now at 0) ≡ false) × (table.now ≡ padded rows) }
+// Whom the clause at the position at is about; the position is that of its first operator.
+#[tactic(auto, using(crate::proofs::Steps::first_byte))]
+pub(crate) fn subject_at(text: &[u8], at: usize) -> Parsed<u64>
+    requires { (at < length text.now) × (blank (get_or text.now at 0) ≡ false) }
     ensures { SubjectTold result text.now at × SubjectEnd result at text.now }
 {
     let b = text[at];
     if b == EQUALS {
-        return Subject::Of(FULL, at);
+        return Ok((FULL, at));
     }
-    if lower(b) == b'a' {
+    if b.to_ascii_lowercase() == b'a' {
         return all_at(text, at);
     }
-    match name_at(text, at, table, index) {
-        Name::Missing(place) => Subject::Missing(place),
-        Name::Is(number, next) => names_at(text, next, table, index, single(number)),
-    }
+    let (number, next) = name_at(text, at)?;
+    names_at(text, next, single(number))
 }
 
 // What follows names that mean c: a comma and more names, up to the first operator.
-fn names_at(text: &[u8], at: usize, table: &[u8], index: &[u8], c: u64) -> Subject
-    requires { table.now ≡ padded rows }
+fn names_at(text: &[u8], at: usize, c: u64) -> Parsed<u64>
     ensures { NamesTold result text.now at c × SubjectEnd result at text.now }
 {
     let mut i = at;
     let mut all = c;
+    // A `while`: i moves on by a comma and a whole name.
     while i < text.len() {
         let b = text[i];
         if is_operator(b) {
-            return Subject::Of(all, i);
+            return Ok((all, i));
         }
         if b != COMMA {
-            return Subject::Missing(i);
+            return Err(ReadError::Malformed(i));
         }
-        match name_at(text, i + 1, table, index) {
-            Name::Missing(place) => {
-                return Subject::Missing(place);
-            }
-            Name::Is(number, next) => {
-                all = all | single(number);
-                i = next;
-            }
-        }
+        let (number, next) = name_at(text, i + 1)?;
+        all |= single(number);
+        i = next;
     }
-    Subject::Missing(i)
+    Err(ReadError::Malformed(i))
 }
 
 // `all` at the position at, up to the first operator.
-fn all_at(text: &[u8], at: usize) -> Subject
+fn all_at(text: &[u8], at: usize) -> Parsed<u64>
     requires { at ≤ length text.now }
     ensures { AllTold result text.now at × SubjectEnd result at text.now }
 {
-    let n = common_at(text, at, b"all");
+    let n = common(&text[at..], b"all");
     let p = at + n;
-    if n == ALL_LENGTH {
-        if p < text.len() {
-            if is_operator(text[p]) {
-                return Subject::Of(FULL, p);
-            }
-        }
+    if n == b"all".len() && p < text.len() && is_operator(text[p]) {
+        return Ok((FULL, p));
     }
-    Subject::Missing(p)
+    Err(ReadError::Malformed(p))
 }

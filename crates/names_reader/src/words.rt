@@ -1,132 +1,88 @@
 // A name at a position, found in the table.
-ghost use Rattle.std.specs.Prelude.{◌≡◌, max, ◌≤◌, ◌<◌, length, drop};
-ghost use Rattle.names_reader.specs.Inside.{common, find, Found, NameEnd, NameTold, padded, row_at, rows, text_of};
+ghost use Rattle.std.specs.Prelude.{◌≡◌, ◌+◌, ◌≤◌, ◌<◌, length, drop, IfSome};
+ghost use Rattle.names_reader.specs.Inside.{common, find, Found, NameEnd, NameTold, OneOf, row_of, rows};
 
-use crate::Name;
-use crate::bytes::lower;
-use crate::table::{ROWS, hash, name_length, name_start, number_of};
-use codes::wide;
+use crate::Parsed;
+use crate::table::{Name, hash, names, row_by_hash};
+use names::ReadError;
 
-// How many bytes `cap_` has, which every name begins with.
-const PREFIX_LENGTH: usize = 4;
+// What every name begins with.
+const PREFIX: &[u8] = b"cap_";
 
-// Where the last byte stands that the index asks for.
-const LAST_HASHED: usize = 6;
-
-// How many bytes of key stand in text at the position at, in either case.
-pub(crate) fn common_at(text: &[u8], at: usize, key: &[u8]) -> usize
-    requires { at ≤ length text.now }
-    ensures { result ≡ common key.now (drop at text.now) }
+// How many bytes of key stand at the front of text, in either case.
+pub(crate) fn common(text: &[u8], key: &[u8]) -> usize
+    ensures { (result ≡ common key.now text.now) × (result ≤ length key.now) × (result ≤ length text.now) }
 {
-    let n = key.len();
-    let room = text.len() - at;
-    let mut k: usize = 0;
-    while k < n {
-        if room <= k {
-            return k;
-        }
-        if lower(text[at + k]) != key[k] {
-            return k;
-        }
-        k += 1;
-    }
-    k
-}
-
-// How many bytes of the row's name stand in text at the position at, in either case.
-fn row_common(text: &[u8], at: usize, table: &[u8], row: usize) -> usize
-    requires { (at ≤ length text.now) × (row < 41) × (table.now ≡ padded rows) }
-    ensures { result ≡ common (text_of (row_at row)) (drop at text.now) }
-{
-    let start = name_start(row);
-    let end = start + name_length(table, row);
-    common_at(text, at, &table[start..end])
+    text.iter()
+        .zip(key)
+        .take_while(|(b, k)| b.to_ascii_lowercase() == **k)
+        .count()
 }
 
 // The name whose rest after `cap_` stands at the position at, or how far the text goes on as some name does: row by row.
-fn search_at(text: &[u8], at: usize, table: &[u8]) -> Name
-    requires { (at ≤ length text.now) × (table.now ≡ padded rows) }
+#[tactic(auto, using(crate::proofs::Rows::row_by_row, crate::proofs::Common::rest))]
+fn search_at(text: &[u8], at: usize) -> Parsed<u64>
+    requires { at ≤ length text.now }
     ensures { result ≡ find at 0 rows (drop at text.now) }
 {
-    let mut row: usize = 0;
-    let mut best: usize = 0;
-    while row < ROWS {
-        let k = row_common(text, at, table, row);
-        if k == name_length(table, row) {
-            let number = number_of(table, row);
-            let next = at + k;
-            return Name::Is(number, next);
+    let rest = &text[at..];
+    let mut best = 0;
+    for &(name, number) in names() {
+        let n = common(rest, name);
+        if n == name.len() {
+            return Ok((number, at + n));
         }
-        best = larger(best, k);
-        row += 1;
+        best = best.max(n);
     }
-    let place = at + best;
-    Name::Missing(place)
+    Err(ReadError::Malformed(at + best))
 }
 
-// A letter or `_`, in lower case; 0 for what can follow a name.
+// A letter or `_`, in lower case; 0 for what can follow a name. A number and no Option: it goes into a sum that is only tried.
 fn letter(b: u8) -> u8 {
-    let low = lower(b);
-    if low < b'_' {
-        return 0;
-    }
-    low
+    let low = b.to_ascii_lowercase();
+    if low < b'_' { 0 } else { low }
 }
 
-// The row that the index has for the bytes at the position at, or no row's number.
-fn indexed_at(text: &[u8], at: usize, index: &[u8]) -> usize
-    requires { at ≤ length text.now }
+// The row that the index has for the bytes at the front of text.
+fn indexed(text: &[u8]) -> Option<&'static Name>
+    ensures { IfSome result (λ x. OneOf (row_of x.now) rows) }
 {
-    let room = text.len() - at;
-    if room <= LAST_HASHED {
-        return ROWS;
-    }
-    let b0 = lower(text[at]);
-    let b3 = lower(text[at + 3]);
-    let b4 = lower(text[at + 4]);
-    let b6 = letter(text[at + LAST_HASHED]);
-    let h = hash(b0, b3, b4, b6);
-    if index.len() <= h {
-        return ROWS;
-    }
-    wide(index[h]) as usize
+    let [b0, _, _, b3, b4, _, b6, ..] = text else {
+        return None;
+    };
+    let h = hash(
+        b0.to_ascii_lowercase(),
+        b3.to_ascii_lowercase(),
+        b4.to_ascii_lowercase(),
+        letter(*b6),
+    );
+    names().get(usize::from(row_by_hash()[h]))
 }
 
 // The name whose rest after `cap_` stands at the position at, or how far the text goes on as some name does: by the index, and else row by row.
-fn find_at(text: &[u8], at: usize, table: &[u8], index: &[u8]) -> Name
-    requires { (at ≤ length text.now) × (table.now ≡ padded rows) }
+#[tactic(auto, using(crate::proofs::Rows::searched, crate::proofs::Common::rest))]
+fn find_at(text: &[u8], at: usize) -> Parsed<u64>
+    requires { at ≤ length text.now }
     ensures { Found result at (drop at text.now) }
 {
-    let row = indexed_at(text, at, index);
-    if row < ROWS {
-        let k = row_common(text, at, table, row);
-        if k == name_length(table, row) {
-            let number = number_of(table, row);
-            let next = at + k;
-            return Name::Is(number, next);
-        }
+    let rest = &text[at..];
+    if let Some(&(name, number)) = indexed(rest)
+        && common(rest, name) == name.len()
+    {
+        return Ok((number, at + name.len()));
     }
-    search_at(text, at, table)
+    search_at(text, at)
 }
 
-// The name at the position at.
-pub(crate) fn name_at(text: &[u8], at: usize, table: &[u8], index: &[u8]) -> Name
-    requires { (at ≤ length text.now) × (table.now ≡ padded rows) }
+// The name at the position at: its capability's number.
+#[tactic(auto, using(crate::proofs::Found::naming, crate::proofs::Common::rest))]
+pub(crate) fn name_at(text: &[u8], at: usize) -> Parsed<u64>
+    requires { at ≤ length text.now }
     ensures { NameTold result text.now at × NameEnd result at text.now }
 {
-    let n = common_at(text, at, b"cap_");
-    if n == PREFIX_LENGTH {
-        return find_at(text, at + PREFIX_LENGTH, table, index);
+    let n = common(&text[at..], PREFIX);
+    if n < PREFIX.len() {
+        return Err(ReadError::Malformed(at + n));
     }
-    let place = at + n;
-    Name::Missing(place)
-}
-
-fn larger(a: usize, b: usize) -> usize
-    ensures { result ≡ max a b }
-{
-    if a < b {
-        return b;
-    }
-    a
+    find_at(text, at + n)
 }

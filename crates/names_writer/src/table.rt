@@ -1,57 +1,54 @@
-// The table that names are written by, a row to each, by number: its length behind `cap_`, its capability's number, its bytes behind `cap_`.
-ghost use Rattle.std.specs.Prelude.{◌≡◌};
+// The names that are written, by their capabilities' numbers. The table stands in the program.
+ghost use Rattle.std.specs.Prelude.{◌≡◌, map};
+ghost use Rattle.format.specs.Line.{bytes};
 ghost use Rattle.names.specs.Names.{capability_names};
-ghost use Rattle.names.specs.Inside.{flat, rows_from};
 
-// How many rows it has.
-pub(crate) const ROWS: usize = 41;
+static NAMES: [&[u8]; 41] = [
+    b"cap_chown",
+    b"cap_dac_override",
+    b"cap_dac_read_search",
+    b"cap_fowner",
+    b"cap_fsetid",
+    b"cap_kill",
+    b"cap_setgid",
+    b"cap_setuid",
+    b"cap_setpcap",
+    b"cap_linux_immutable",
+    b"cap_net_bind_service",
+    b"cap_net_broadcast",
+    b"cap_net_admin",
+    b"cap_net_raw",
+    b"cap_ipc_lock",
+    b"cap_ipc_owner",
+    b"cap_sys_module",
+    b"cap_sys_rawio",
+    b"cap_sys_chroot",
+    b"cap_sys_ptrace",
+    b"cap_sys_pacct",
+    b"cap_sys_admin",
+    b"cap_sys_boot",
+    b"cap_sys_nice",
+    b"cap_sys_resource",
+    b"cap_sys_time",
+    b"cap_sys_tty_config",
+    b"cap_mknod",
+    b"cap_lease",
+    b"cap_audit_write",
+    b"cap_audit_control",
+    b"cap_setfcap",
+    b"cap_mac_override",
+    b"cap_mac_admin",
+    b"cap_syslog",
+    b"cap_wake_alarm",
+    b"cap_block_suspend",
+    b"cap_audit_read",
+    b"cap_perfmon",
+    b"cap_bpf",
+    b"cap_checkpoint_restore",
+];
 
-const BY_NUMBER: [u8; 462] = *b"\
-    \x05\x00chown\
-    \x0c\x01dac_override\
-    \x0f\x02dac_read_search\
-    \x06\x03fowner\
-    \x06\x04fsetid\
-    \x04\x05kill\
-    \x06\x06setgid\
-    \x06\x07setuid\
-    \x07\x08setpcap\
-    \x0f\x09linux_immutable\
-    \x10\x0anet_bind_service\
-    \x0d\x0bnet_broadcast\
-    \x09\x0cnet_admin\
-    \x07\x0dnet_raw\
-    \x08\x0eipc_lock\
-    \x09\x0fipc_owner\
-    \x0a\x10sys_module\
-    \x09\x11sys_rawio\
-    \x0a\x12sys_chroot\
-    \x0a\x13sys_ptrace\
-    \x09\x14sys_pacct\
-    \x09\x15sys_admin\
-    \x08\x16sys_boot\
-    \x08\x17sys_nice\
-    \x0c\x18sys_resource\
-    \x08\x19sys_time\
-    \x0e\x1asys_tty_config\
-    \x05\x1bmknod\
-    \x05\x1clease\
-    \x0b\x1daudit_write\
-    \x0d\x1eaudit_control\
-    \x07\x1fsetfcap\
-    \x0c\x20mac_override\
-    \x09\x21mac_admin\
-    \x06\x22syslog\
-    \x0a\x23wake_alarm\
-    \x0d\x24block_suspend\
-    \x0a\x25audit_read\
-    \x07\x26perfmon\
-    \x03\x27bpf\
-    \x12\x28checkpoint_restore\
-    ";
-
-pub(crate) fn by_number() -> [u8; 462]
-    ensures { result ≡ flat (rows_from 0 capability_names) }
+pub(crate) fn names() -> &'static [&'static [u8]; 41]
+    ensures { map (λ x. x.now) result.now ≡ map bytes capability_names }
 {
-    BY_NUMBER
+    &NAMES
 }

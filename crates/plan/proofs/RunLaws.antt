@@ -1,102 +1,130 @@
--- Laws of steps read and run one after the other, whatever a step is and whatever state it leaves. Assumes nothing.
+-- Laws of steps read and taken one after the other, whatever a step is and whatever state it leaves. Assumes nothing.
 use native.Mathlib.Omega.{arith}
 use native.Mathlib.Numerals.{add-one}
 use mathlib.Core.Path.{◌≡◌, refl, sym, ap, ◌∙◌}
+use mathlib.Core.Bool.{Bool, true, false, not}
 use mathlib.Core.List.{List, [], ◌∷◌, ◌++◌, append_assoc, append-nil}
-use Prim.Native.Nat.{ℕ, zero, suc, ◌+◌, ◌*◌, ◌<◌, ◌≤◌}
-use lib.ListN.{length, get_or, take, drop, length-append, drop_of_length-le}
-use lib.Seq.{drop-cons, length-take-le}
-use Rattle.format.specs.Line.{Read, read, fault_at, below, mapped}
+use Prim.Native.Nat.{ℕ, zero, suc, ◌+◌, ◌<◌, ◌≤◌}
+use lib.ListN.{length, get_or, drop, drop_of_length-le}
+use lib.Seq.{drop-cons}
+use Rattle.credentials.specs.declared.Credentials.{Credentials}
+use Rattle.format.specs.Line.{Read, read, fault_at, below, next, mapped}
 use Rattle.format.specs.Plan.{read_many}
-use Rattle.format.proofs.Reading.{mapped_told, mapped_fault}
-use Rattle.plan.specs.Inside.{Ran}
+use Rattle.format.specs.Report.{malformed}
+use Rattle.format.specs.Sheet.{read_front}
+use Rattle.format.proofs.Reading.{fault_read}
+use Rattle.plan.specs.declared.state.StepAnswer.{StepAnswer}
+use Rattle.plan.specs.Inside.{Taken, PlanKind, Ran, ran_none, before, ran_by, ran_verdict, verdict_by}
 
--- no steps
-abbrev pub ran_none : {S : Type 0} → S → Ran S
-ran_none c = record { codes = []; values = []; causes = []; last = c }
+-- so many lines and these answers before the steps to come
+abbrev pub grown : {S : Type 0} → ℕ → List StepAnswer → Read (Ran S) → Read (Ran S)
+grown lines rs (read x t) = read (record { answers = rs ++ x.answers; last = x.last }) t
+grown lines rs (fault_at line) = fault_at (lines + line)
 
--- a code, a value and a cause in front
-abbrev pub before : {S : Type 0} → ℕ → ℕ → ℕ → Ran S → Ran S
-before code value cause x = record { codes = code ∷ x.codes; values = value ∷ x.values; causes = cause ∷ x.causes; last = x.last }
+module _ {S : Type 0} where
+  grown_one : (lines more : ℕ) (rs : List StepAnswer) (r : StepAnswer) (x : Read (Ran S))
+      → grown lines rs (below more (mapped (before r) x)) ≡ grown (lines + more) (rs ++ (r ∷ [])) x
+  grown_one lines more rs r (read x t) = ap (λ (xs : List StepAnswer). read (record { answers = xs; last = x.last }) t) (sym (append_assoc rs (r ∷ []) x.answers))
+  grown_one lines more rs r (fault_at line) = let e : lines + (more + line) ≡ (lines + more) + line = omega arith in ap fault_at e
 
--- codes, values and causes in front of those of the steps to come, each of so many lines
-abbrev pub grown : {S : Type 0} → ℕ → List ℕ → List ℕ → List ℕ → Read (Ran S) → Read (Ran S)
-grown lines cs vs ws (read x t) = read (record { codes = cs ++ x.codes; values = vs ++ x.values; causes = ws ++ x.causes; last = x.last }) t
-grown lines cs vs ws (fault_at line) = fault_at (lines * length cs + line)
+  -- no answers before
+  pub grown_none : (lines : ℕ) (rs : List StepAnswer) (x : Read (Ran S)) → rs ≡ [] → below lines x ≡ grown lines rs x
+  grown_none lines rs (read x t) e = rw e
+  grown_none lines rs (fault_at line) e = refl
 
-module _ {S : Type 0} (lines : ℕ) where
-  grown_one : (cs vs ws : List ℕ) (code value cause : ℕ) (x : Read (Ran S))
-      → grown lines cs vs ws (below lines (mapped (before code value cause) x)) ≡ grown lines (cs ++ (code ∷ [])) (vs ++ (value ∷ [])) (ws ++ (cause ∷ [])) x
-  grown_one cs vs ws code value cause (read x t) =
-      let p : cs ++ (code ∷ x.codes) ≡ (cs ++ (code ∷ [])) ++ x.codes = sym (append_assoc cs (code ∷ []) x.codes) in
-      let q : vs ++ (value ∷ x.values) ≡ (vs ++ (value ∷ [])) ++ x.values = sym (append_assoc vs (value ∷ []) x.values) in
-      let o : ws ++ (cause ∷ x.causes) ≡ (ws ++ (cause ∷ [])) ++ x.causes = sym (append_assoc ws (cause ∷ []) x.causes) in
-      λ i. read (record { codes = p i; values = q i; causes = o i; last = x.last }) t
-  grown_one cs vs ws code value cause (fault_at line) =
-      let e : lines * length cs + (lines + line) ≡ lines * (length cs + 1) + line = solve_lines lines (length cs) line in
-      ap fault_at (e ∙ ap (λ (n : ℕ). lines * n + line) (sym (length-append cs (code ∷ []))))
+  -- nothing to come
+  pub grown_all : (lines : ℕ) (rs : List StepAnswer) (s : S) → grown lines rs (read (ran_none s) []) ≡ read (record { answers = rs; last = s }) []
+  grown_all lines rs s = ap (λ (xs : List StepAnswer). read (record { answers = xs; last = s }) []) (append-nil rs)
+
+-- what is read after so many lines
+pub below_read : {A : Type 0} (lines : ℕ) (r : Read A) (x : A) (t : List ℕ) → below lines r ≡ read x t → r ≡ read x t
+below_read lines (read y u) x t e = e
+below_read lines (fault_at line) x t e = fault_read x t e
+
+pub below_mapped : {A B : Type 0} (lines : ℕ) (f : A → B) (r : Read A) → below lines (mapped f r) ≡ mapped f (below lines r)
+below_mapped lines f (read x t) = refl
+below_mapped lines f (fault_at line) = refl
+
+module _ {S : Type 0} (k : PlanKind S) (i : ℕ) (text : List ℕ) (s : S) where
+  -- the text is at its end
+  pub ran_end : (n : ℕ) → length text ≤ i → ran_by k n s (drop i text) ≡ read (ran_none s) []
+  unfolding ran_by
+  ran_end zero h = rw (drop_of_length-le text h)
+  ran_end (suc n) h = rw (drop_of_length-le text h)
+
+  -- there are as many steps as there can be
+  pub ran_full : (n : ℕ) → n ≡ 0 → i < length text → ran_by k n s (drop i text) ≡ fault_at 1
+  unfolding ran_by
+  ran_full n e h = rw (e, drop-cons text i 0 h)
+
+  -- a step that is at fault, after so many lines
+  pub ran_fault : (n m lines line : ℕ) (rs : List StepAnswer) → n ≡ m + 1 → i < length text → fault_at line ≡ below lines (k.taken s (drop i text))
+      → fault_at line ≡ grown lines rs (ran_by k n s (drop i text))
+  unfolding ran_by
+  ran_fault n m lines line rs e h g =
+      let d = drop-cons text i 0 h in
+      rw (e, add-one m, d) (by_fault (k.taken s (get_or text i 0 ∷ drop (suc i) text)) (rw d at g))
     where
-      solve_lines : (l n m : ℕ) → l * n + (l + m) ≡ l * (n + 1) + m
-      solve_lines l n m = omega arith
+      by_fault : (r : Read (Taken S)) → fault_at line ≡ below lines r
+          → fault_at line ≡ grown lines rs (next k.lines r (λ x rest. mapped (before x.answer) (ran_by k m x.state rest)))
+      by_fault (read x t) c = fault_read x t c
+      by_fault (fault_at l) c = let p : line ≡ lines + l = cc in ap fault_at p
 
-  -- nothing before, and nothing to come
-  pub grown_none : (x : Read (Ran S)) → x ≡ grown lines [] [] [] x
-  grown_none (read x t) = refl
-  grown_none (fault_at line) = let e : line ≡ lines * 0 + line = omega arith in ap fault_at e
+  one_step : (n m : ℕ) (x : Taken S) (rest : List ℕ) → n ≡ m + 1 → i < length text → k.taken s (drop i text) ≡ read x rest
+      → ran_by k n s (drop i text) ≡ below k.lines (mapped (before x.answer) (ran_by k m x.state rest))
+  unfolding ran_by
+  one_step n m x rest e h g =
+      let d = drop-cons text i 0 h in
+      let f = rw d at g in
+      rw (e, add-one m, d, f)
 
-  pub grown_all : (cs vs ws : List ℕ) (c : S)
-      → grown lines cs vs ws (read (ran_none c) []) ≡ read (record { codes = cs; values = vs; causes = ws; last = c }) []
-  grown_all cs vs ws c = λ i. read (record { codes = append-nil cs i; values = append-nil vs i; causes = append-nil ws i; last = c }) []
+  -- a step more
+  pub ran_step : (n m lines : ℕ) (rs : List StepAnswer) (x : Taken S) (rest : List ℕ) → n ≡ m + 1 → i < length text → read x rest ≡ below lines (k.taken s (drop i text))
+      → grown lines rs (ran_by k n s (drop i text)) ≡ grown (lines + k.lines) (rs ++ (x.answer ∷ [])) (ran_by k m x.state rest)
+  ran_step n m lines rs x rest e h g =
+      ap (grown lines rs) (one_step n m x rest e h (below_read lines (k.taken s (drop i text)) x rest (sym g))) ∙ grown_one lines k.lines rs x.answer (ran_by k m x.state rest)
 
-  -- a fault after so many steps
-  pub grown_fault : (codes vs ws : List ℕ) (n line : ℕ) → n ≤ length codes → grown {S = S} lines (take n codes) vs ws (fault_at line) ≡ fault_at (lines * n + line)
-  grown_fault codes vs ws n line h = ap (λ (k : ℕ). fault_at (lines * k + line)) (length-take-le n codes h)
+-- read first and run then, or each taken as it is read: steps of so many lines by their reader, what one does to a state, and what they do together
+module _ {A S : Type 0} (k : PlanKind S) (one : List ℕ → Read A) (does : S → A → Taken S) (ran : S → List A → Ran S)
+    (taken : (s : S) (t : List ℕ) → k.taken s t ≡ mapped (does s) (one t))
+    (none : (s : S) → ran s [] ≡ ran_none s)
+    (some : (s : S) (x : A) (xs : List A) → ran s (x ∷ xs) ≡ before (does s x).answer (ran (does s x).state xs)) where
+  one_more : (s : S) (x : A) (r : Read (List A))
+      → mapped (ran s) (below k.lines (mapped (λ xs. x ∷ xs) r)) ≡ below k.lines (mapped (before (does s x).answer) (mapped (ran (does s x).state) r))
+  one_more s x (read xs t) = ap (λ (y : Ran S). read y t) (some s x xs)
+  one_more s x (fault_at line) = refl
 
--- steps of so many lines by their reader; what one does to a state, with its code, value, cause and the state that it leaves; and what they do together
-module _ {A R S : Type 0} (lines : ℕ) (one : List ℕ → Read A) (does : S → A → R) (code_of value_of cause_of : R → ℕ) (state_of : R → S) (ran : S → List A → Ran S)
-    (none : (c : S) → ran c [] ≡ ran_none c)
-    (some : (c : S) (x : A) (xs : List A)
-    → ran c (x ∷ xs) ≡ before (code_of (does c x)) (value_of (does c x)) (cause_of (does c x)) (ran (state_of (does c x)) xs)) where
-  -- up to n of them, read and run
-  abbrev ran_many : ℕ → S → List ℕ → Read (Ran S)
-  ran_many n c t = mapped (ran c) (read_many lines one n t)
+  pub read_and_ran : (n : ℕ) (s : S) (t : List ℕ) → ran_by k n s t ≡ mapped (ran s) (read_many k.lines one n t)
+  unfolding ran_by read_many
+  read_and_ran zero s [] = ap (λ (y : Ran S). read y []) (sym (none s))
+  read_and_ran zero s (b ∷ t) = refl
+  read_and_ran (suc n) s [] = ap (λ (y : Ran S). read y []) (sym (none s))
+  read_and_ran (suc n) s (b ∷ t) = rw (taken s (b ∷ t)) (by_step (read_and_ran n) (one (b ∷ t)))
+    where
+      by_step : ((u : S) (rest : List ℕ) → ran_by k n u rest ≡ mapped (ran u) (read_many k.lines one n rest)) → (r : Read A)
+          → next k.lines (mapped (does s) r) (λ x rest. mapped (before x.answer) (ran_by k n x.state rest))
+          ≡ mapped (ran s) (next k.lines r (λ x rest. mapped (λ xs. x ∷ xs) (read_many k.lines one n rest)))
+      by_step same (read x rest) =
+          ap (λ (y : Read (Ran S)). below k.lines (mapped (before (does s x).answer) y)) (same (does s x).state rest) ∙ sym (one_more s x (read_many k.lines one n rest))
+      by_step same (fault_at line) = refl
 
-  module _ (i : ℕ) (text : List ℕ) (c : S) where
-    -- the text is at its end
-    pub many_end : (n : ℕ) → length text ≤ i → ran_many n c (drop i text) ≡ read (ran_none c) []
-    unfolding read_many
-    many_end zero h = rw (drop_of_length-le text h, none c)
-    many_end (suc n) h = rw (drop_of_length-le text h, none c)
+-- ---- the plan as a whole
 
-    -- there are as many steps as there can be
-    pub many_full : (n : ℕ) → n ≡ 0 → i < length text → ran_many n c (drop i text) ≡ fault_at 1
-    unfolding read_many
-    many_full n e h = rw (e, drop-cons text i 0 h)
+pub not_true : (b : Bool) → not b ≡ true → b ≡ false
+not_true true h = sym h
+not_true false h = refl
 
-    pub many_fault : (n m line : ℕ) → n ≡ m + 1 → i < length text → mapped (does c) (one (drop i text)) ≡ fault_at line → ran_many n c (drop i text) ≡ fault_at line
-    unfolding read_many
-    many_fault n m line e h g =
-        let d = drop-cons text i 0 h in
-        let f = rw d at (mapped_fault (does c) (one (drop i text)) line g) in
-        rw (e, add-one m, d, f)
+pub not_false : (b : Bool) → not b ≡ false → b ≡ true
+not_false true h = refl
+not_false false h = sym h
 
-    one_run : (x : A) (r : Read (List A))
-        → mapped (ran c) (below lines (mapped (λ xs. x ∷ xs) r))
-        ≡ below lines (mapped (before (code_of (does c x)) (value_of (does c x)) (cause_of (does c x))) (mapped (ran (state_of (does c x))) r))
-    one_run x (read xs t) = ap (λ (y : Ran S). read y t) (some c x xs)
-    one_run x (fault_at line) = refl
+module _ {S : Type 0} (k : PlanKind S) (text : List ℕ) where
+  pub front_at_fault : (line : ℕ) → read_front text ≡ fault_at line → verdict_by k text ≡ malformed line
+  unfolding verdict_by
+  front_at_fault line h = rw h
 
-    one_step : (n m : ℕ) (r : R) (rest : List ℕ) → n ≡ m + 1 → i < length text → mapped (does c) (one (drop i text)) ≡ read r rest
-        → ran_many n c (drop i text) ≡ below lines (mapped (before (code_of r) (value_of r) (cause_of r)) (ran_many m (state_of r) rest))
-    unfolding read_many
-    one_step n m r rest e h g =
-        let d = drop-cons text i 0 h in
-        let s = mapped_told r rest (does c) (one (get_or text i 0 ∷ drop (suc i) text)) (rw d at g) in
-        rw (e, add-one m, d, s.1) (one_run s.0 (read_many lines one m rest) ∙ rw s.2)
-
-    -- a step more
-    pub many_step : (n m : ℕ) (cs vs ws : List ℕ) (r : R) (rest : List ℕ) → n ≡ m + 1 → i < length text → mapped (does c) (one (drop i text)) ≡ read r rest
-        → grown lines cs vs ws (ran_many n c (drop i text))
-        ≡ grown lines (cs ++ (code_of r ∷ [])) (vs ++ (value_of r ∷ [])) (ws ++ (cause_of r ∷ [])) (ran_many m (state_of r) rest)
-    many_step n m cs vs ws r rest e h g =
-        ap (grown lines cs vs ws) (one_step n m r rest e h g) ∙ grown_one lines cs vs ws (code_of r) (value_of r) (cause_of r) (ran_many m (state_of r) rest)
+  -- what its steps come to
+  pub steps_after : (c : Credentials) (rest : List ℕ) (s : S) (r : Read (Ran S)) → read_front text ≡ read c rest → s ≡ k.start c → r ≡ below 15 (ran_by k 256 s rest)
+      → verdict_by k text ≡ ran_verdict k c r
+  unfolding verdict_by
+  steps_after c rest s r h e is = rw (h, ← e, ← is)

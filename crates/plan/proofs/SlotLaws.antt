@@ -8,7 +8,8 @@ use Prim.Native.Nat.{ℕ, ◌+◌, ◌≤◌}
 use lib.ListN.{length, length-append}
 use lib.Seq.{sets, length-sets}
 use borrow.Author.Tests.{le-leb}
-use Rattle.attribute.specs.declared.Written.{Written}
+use Rattle.std.proofs.Common.{Result, Ok}
+use Rattle.format.specs.declared.SheetWriteError.{SheetWriteError}
 use Rattle.credentials.specs.Validity.{valid}
 use Rattle.credentials.specs.declared.Credentials.{Credentials}
 use Rattle.format.specs.Line.{decimal_text, keyed_text}
@@ -33,11 +34,11 @@ slot_length slot c =
     omega (arith, length-append (keyed_text slot_kind.key (decimal_text slot)) (sheet_text c), length_keyed slot_kind.key (decimal_text slot))
 
 -- its line, then its sheet, in a buffer that has room for them
-pub slot_put : (table old one two : List ℕ) (at past slot : ℕ) (c : Credentials) (w : Written) → valid c ≡ true → table ≡ writing_table
+pub slot_put : (table old one two : List ℕ) (at past slot : ℕ) (c : Credentials) (w : Result ℕ SheetWriteError) → valid c ≡ true → table ≡ writing_table
     → at + length (slot_text slot c) ≤ length old
     → past ≡ written_to old at (keyed_text slot_kind.key (decimal_text slot)) → one ≡ written old at (keyed_text slot_kind.key (decimal_text slot))
     → w ≡ answer_at c past one → two ≡ buffer_by table c past one
-    → (past + w.length ≡ at + length (slot_text slot c)) × (two ≡ sets old at (slot_text slot c))
+    → (w ≡ Ok (length (sheet_text c))) × (past + length (sheet_text c) ≡ at + length (slot_text slot c)) × (two ≡ sets old at (slot_text slot c))
 unfolding slot_text answer_at
 slot_put table old one two at past slot c w v is fit p q answer buffer =
     let line = keyed_text slot_kind.key (decimal_text slot) in
@@ -47,9 +48,9 @@ slot_put table old one two at past slot c w v is fit p q answer buffer =
     let now : one ≡ sets old at line = q ∙ first.1 in
     let same : length one ≡ length old = ap length now ∙ length-sets old at line in
     let fits : past + length (sheet_text c) ≤ length one = omega (arith, fit, both, there, same) in
-    let second = text_put (sheet_text c) one past fits in
-    let size : w.length ≡ length (sheet_text c) = ap (λ (x : Written). x.length) answer ∙ rw (v, le-leb _ _ fits) in (
-      omega (arith, there, size, both),
+    let second = text_put (sheet_text c) one past fits in (
+      answer ∙ rw (v, le-leb _ _ fits),
+      omega (arith, there, both),
       buffer ∙ sheet_put table c past one is v ∙ second.1 ∙ rw (now, there) (sym (sets_append line (sheet_text c) old at)),
     )
 

@@ -1,117 +1,147 @@
 -- How the values of private functions stand for those of the format and the rules; no public contract cites these. Assumes nothing.
-use Rattle.std.specs.Prelude.{ℕ, ◌≤◌, ◌≡◌, true, false, cond, List, [], ◌∷◌, ◌++◌, length, take, drop}
+use Rattle.std.specs.Prelude.{ℕ, zero, suc, ◌≡◌, true, cond, List, [], ◌∷◌, ◌++◌, drop, Ok, Err}
+use Rattle.std.specs.Prelude.{Result as Answer}
 use Rattle.credentials.specs.declared.Credentials.{Credentials}
 use Rattle.credentials.specs.Validity.{valid}
-use Rattle.rules.specs.Run.{Step, Result, run, left}
-use Rattle.format.specs.Line.{lines_text, Read, read, fault_at, mapped}
-use Rattle.format.specs.Plan.{read_steps}
-use Rattle.format.specs.Report.{result_kinds}
-use Rattle.slot_format.specs.SlotPlan.{read_slot_steps}
-use Rattle.slots.specs.Turn.{slot_step}
-use Rattle.threads.specs.Step.{SlotStep, run_in, ends}
-use Rattle.threads.specs.Table.{held, in_use}
+use Rattle.rules.specs.Run.{Step, Result, result}
+use Rattle.format.specs.Line.{decimal, lines_text, Read, read, fault_at, below, next, mapped}
+use Rattle.format.specs.Sheet.{sheet_text, read_front}
+use Rattle.format.specs.Step.{step_kinds, attribute_key, step_of, read_step}
+use Rattle.format.specs.Plan.{many_text}
+use Rattle.format.specs.Report.{result_kinds, Verdict, report, malformed, invalid}
+use Rattle.line_reader.specs.Positions.{Reading, valued, followed, number_at, lines_by, attribute_by}
+use Rattle.line_reader.specs.declared.Fault.{Fault}
+use Rattle.line_reader.specs.declared.Place.{Place}
+use Rattle.slot_format.specs.SlotPlan.{slot_kind, read_slot_step}
+use Rattle.slot_format.specs.SlotReport.{table_text}
+use Rattle.threads.specs.Step.{SlotStep, step_in}
+use Rattle.threads.specs.Table.{held, in_use, fresh}
+use Rattle.threads.specs.declared.SlotResult.{SlotResult}
 use Rattle.threads.specs.declared.Threads.{Threads}
-use Rattle.plan.specs.declared.slot_runner.SlotStepsRun.{SlotStepsRun}
 use Rattle.plan.specs.declared.slot_step.SlotLines.{SlotLines}
-use Rattle.plan.specs.declared.step.StepResult.{StepResult}
-use Rattle.plan.specs.declared.step.StepRun.{StepRun}
-use Rattle.plan.specs.declared.step.StepRun.TheVariants as step
-use Rattle.plan.specs.declared.runner.StepsRun.{StepsRun}
-use Rattle.plan.specs.declared.runner.StepsRun.TheVariants as steps
+use Rattle.plan.specs.declared.state.StepAnswer.{StepAnswer}
+use Rattle.plan.specs.declared.step.StepLines.{StepLines}
 
--- ---- a step
+-- ---- a step, read
 
--- the result of a step, and the text after it is told by its position
-abbrev pub same_result : StepResult → Result
-same_result r = record { code = r.code; value = r.value; cause = r.cause; after = r.after }
+-- what its lines say
+abbrev pub said : StepLines → Step
+said l = record { number = l.number; a = l.a; b = l.b; c = l.c; attribute = l.attribute }
 
-abbrev pub seen_step : StepRun → List ℕ → Read Result
-seen_step (step.Done r next) text = read (same_result r) (drop next text)
-seen_step (step.Fault line) text = fault_at line
+abbrev pub slot_said : SlotLines → SlotStep
+slot_said l = record { slot = l.slot; step = said l.step }
 
-abbrev pub StepEnd : StepRun → Type 0
-StepEnd (step.Done r next) = 0 ≤ 5
-StepEnd (step.Fault line) = line ≤ 5
+-- the step at a place, with its hex digits by a table; by that for reading it is the format's
+abbrev pub step_by : List ℕ → List ℕ → Place → Reading Step
+step_by table text p =
+    followed (lines_by table step_kinds text p) (λ vs q. valued (λ bs. step_of vs bs) (attribute_by table attribute_key text q))
 
--- ---- a step of a slot plan
+abbrev pub slot_step_by : List ℕ → List ℕ → Place → Reading SlotStep
+slot_step_by table text p =
+    followed (number_at slot_kind.key (decimal 99) text p) (λ v q. valued (λ s. record { slot = v; step = s }) (step_by table text q))
 
-abbrev pub seen_slot_step : SlotLines → List ℕ → Read SlotStep
-seen_slot_step r text =
-    cond r.place.fault (fault_at r.place.lines)
-    (read (slot_step r.slot r.number r.a r.b r.c (take r.size r.bytes)) (drop r.place.at text))
+-- ---- the two kinds of plan
 
--- where it is at fault, one of its six lines is; where it is not, the attribute's bytes are at the front of 24
-abbrev pub SlotStepEnd : SlotLines → Type 0
-SlotStepEnd r =
-    (r.place.fault ≡ true → r.place.lines ≤ 6) × (r.place.fault ≡ false → (r.size ≤ 24) × (length r.bytes ≡ 24))
+-- a step taken: what it answers, and the state that it leaves
+pub record Taken (S : Type 0) : Type 0 where
+  pub answer : StepAnswer
+  pub state : S
 
--- ---- the steps
+-- a kind of plan, by the state that its steps are taken in: how many lines a step has, the state at the start, a step read at the front of a text and taken,
+-- and the lines of a state that the report ends with
+pub record PlanKind (S : Type 0) : Type 0 where
+  pub lines : ℕ
+  pub start : Credentials → S
+  pub taken : S → List ℕ → Read (Taken S)
+  pub text : S → List ℕ
 
--- what steps give: their codes, their values, their causes and the last state, credentials or a table
-pub record Ran (S : Type 0) : Type 0 where
-  pub codes : List ℕ
-  pub values : List ℕ
-  pub causes : List ℕ
-  pub last : S
+-- a plan, of one thread
+abbrev pub thread_taken : Result → Taken Credentials
+thread_taken r = record { answer = record { code = r.code; cause = r.cause; value = r.value }; state = r.after }
 
--- a number of each in a list
-unfoldable pub numbers_of : {A : Type 0} → (A → ℕ) → List A → List ℕ
-numbers_of f [] = []
-numbers_of f (x ∷ xs) = f x ∷ numbers_of f xs
-
-abbrev pub ran_of : Credentials → List Step → Ran Credentials
-ran_of start ss =
+abbrev pub thread_kind : PlanKind Credentials
+thread_kind =
     record {
-      codes = numbers_of (λ r. r.code) (run start ss);
-      values = numbers_of (λ r. r.value) (run start ss);
-      causes = numbers_of (λ r. r.cause) (run start ss);
-      last = left start ss;
+      lines = 5;
+      start = λ c. c;
+      taken = λ c t. mapped (λ s. thread_taken (result c s)) (read_step t);
+      text = sheet_text;
     }
 
-abbrev pub slot_ran_of : Threads → List SlotStep → Ran Threads
-slot_ran_of table ss =
+-- a slot plan, of a table of threads
+abbrev pub table_taken : SlotResult → Taken Threads
+table_taken r = record { answer = record { code = r.code; cause = r.cause; value = r.value }; state = r.table }
+
+abbrev pub table_kind : PlanKind Threads
+table_kind =
     record {
-      codes = numbers_of (λ r. r.code) (run_in table ss);
-      values = numbers_of (λ r. r.value) (run_in table ss);
-      causes = numbers_of (λ r. r.cause) (run_in table ss);
-      last = ends table ss;
+      lines = 6;
+      start = fresh;
+      taken = λ table t. mapped (λ s. table_taken (step_in table s)) (read_slot_step t);
+      text = table_text;
     }
-
--- up to n steps, read and run
-unfoldable pub ran_steps : ℕ → Credentials → List ℕ → Read (Ran Credentials)
-ran_steps n start text = mapped (ran_of start) (read_steps n text)
-
-unfoldable pub ran_slot_steps : ℕ → Threads → List ℕ → Read (Ran Threads)
-ran_slot_steps n table text = mapped (slot_ran_of table) (read_slot_steps n text)
-
--- codes, values and causes stand at the front of three arrays
-abbrev pub ran_first : {S : Type 0} → ℕ → List ℕ → List ℕ → List ℕ → S → Ran S
-ran_first n codes values causes last = record { codes = take n codes; values = take n values; causes = take n causes; last = last }
-
-abbrev pub seen_steps : StepsRun → List ℕ → List ℕ → List ℕ → Read (Ran Credentials)
-seen_steps (steps.Done n last) codes values causes = read (ran_first n codes values causes last) []
-seen_steps (steps.Fault line) codes values causes = fault_at line
-
-abbrev pub StepsEnd : StepsRun → Type 0
-StepsEnd (steps.Done n last) = n ≤ 256
-StepsEnd (steps.Fault line) = line ≤ 1281
-
-abbrev pub seen_slot_steps : SlotStepsRun → List ℕ → List ℕ → List ℕ → Read (Ran Threads)
-seen_slot_steps r codes values causes = cond r.fault (fault_at r.line) (read (ran_first r.count codes values causes r.table) [])
 
 -- each slot in use has valid credentials
 abbrev pub UsedValid : Threads → Type 0
 UsedValid table = (slot : ℕ) → in_use table slot ≡ true → valid (held table slot) ≡ true
 
+-- ---- steps, read and taken one after the other
+
+-- a step as the code takes it: what it answers and the place past it, or the fault, and the state that it leaves
+abbrev pub seen_step : {S : Type 0} → Reading StepAnswer → S → List ℕ → Read (Taken S)
+seen_step (Ok r) s text = read (record { answer = r.0; state = s }) (drop r.1.at text)
+seen_step (Err e) s text = fault_at e.line
+
+-- steps taken: what each answers, and the state that the last one leaves
+pub record Ran (S : Type 0) : Type 0 where
+  pub answers : List StepAnswer
+  pub last : S
+
+-- none
+abbrev pub ran_none : {S : Type 0} → S → Ran S
+ran_none s = record { answers = []; last = s }
+
+-- one more in front
+abbrev pub before : {S : Type 0} → StepAnswer → Ran S → Ran S
+before r x = record { answers = r ∷ x.answers; last = x.last }
+
+-- up to n steps, to the end of the text
+unfoldable pub ran_by : {S : Type 0} → PlanKind S → ℕ → S → List ℕ → Read (Ran S)
+ran_by k zero s [] = read (ran_none s) []
+ran_by k zero s (b ∷ t) = fault_at 1
+ran_by k (suc n) s [] = read (ran_none s) []
+ran_by k (suc n) s (b ∷ t) = next k.lines (k.taken s (b ∷ t)) (λ x rest. mapped (before x.answer) (ran_by k n x.state rest))
+
+-- steps as the code takes them
+abbrev pub seen_steps : {S U : Type 0} → Answer U Fault → S → List StepAnswer → Read (Ran S)
+seen_steps (Ok u) s rs = read (record { answers = rs; last = s }) []
+seen_steps (Err e) s rs = fault_at e.line
+
 -- ---- the report
 
--- the three lines of each code, value and cause
-unfoldable pub answers_text : List ℕ → List ℕ → List ℕ → List ℕ
-answers_text [] vs ws = []
-answers_text (c ∷ cs) [] ws = []
-answers_text (c ∷ cs) (v ∷ vs) [] = []
-answers_text (c ∷ cs) (v ∷ vs) (w ∷ ws) = lines_text result_kinds (c ∷ v ∷ w ∷ []) ++ answers_text cs vs ws
+-- the three lines of an answer
+abbrev pub answer_text : StepAnswer → List ℕ
+answer_text r = lines_text result_kinds (r.code ∷ r.value ∷ r.cause ∷ [])
 
--- of the first n of each
-abbrev pub first_answers : ℕ → List ℕ → List ℕ → List ℕ → List ℕ
-first_answers n codes values causes = answers_text (take n codes) (take n values) (take n causes)
+-- those of each
+abbrev pub answers_text : List StepAnswer → List ℕ
+answers_text rs = many_text answer_text rs
+
+-- ---- the plan as a whole
+
+-- what steps come to after a sheet of these credentials
+abbrev pub ran_verdict : {S : Type 0} → PlanKind S → Credentials → Read (Ran S) → Verdict
+ran_verdict k c (read x t) = cond (valid c) (report (answers_text x.answers ++ k.text x.last)) invalid
+ran_verdict k c (fault_at line) = malformed line
+
+abbrev pub front_verdict : {S : Type 0} → PlanKind S → Read Credentials → Verdict
+front_verdict k (read c rest) = ran_verdict k c (below 15 (ran_by k 256 (k.start c) rest))
+front_verdict k (fault_at line) = malformed line
+
+-- what the text of a plan of some kind comes to: `verdict` for one thread, `slot_verdict` for a table
+unfoldable pub verdict_by : {S : Type 0} → PlanKind S → List ℕ → Verdict
+verdict_by k text = front_verdict k (read_front text)
+
+-- steps from a valid start end in a state of which something holds
+abbrev pub EndsIn : {S : Type 0} → PlanKind S → (S → Type 0) → Type 0
+EndsIn {S} k Sound = (c : Credentials) (rest : List ℕ) (x : Ran S) → valid c ≡ true → below 15 (ran_by k 256 (k.start c) rest) ≡ read x [] → Sound x.last

@@ -1,128 +1,93 @@
-// The steps, one after the other, and the plan as a whole.
-ghost use Rattle.std.specs.Prelude.{◌≡◌, length, drop};
+// The steps, one after the other, and the plan as a whole, of either kind.
+ghost use Rattle.std.specs.Prelude.{◌≡◌, ◌≤◌, [], length, drop};
 ghost use Rattle.credentials.specs.Validity.{valid};
-ghost use Rattle.format.specs.Line.{read};
-ghost use Rattle.format.specs.Sheet.{read_front};
+ghost use Rattle.format.specs.Line.{below, read};
 ghost use Rattle.format.specs.Report.{verdict, outcome, buffer};
-ghost use Rattle.hex_tables.specs.Tables.{reading_table, writing_table};
-ghost use Rattle.plan.specs.Inside.{ran_steps, seen_steps, StepsEnd};
+ghost use Rattle.format.specs.Sheet.{read_front};
+ghost use Rattle.slot_format.specs.SlotReport.{slot_verdict};
+ghost use Rattle.plan.specs.Inside.{EndsIn, ran_by, seen_steps, verdict_by};
 
 use crate::report::write_report;
-use crate::step::{StepRun, run_step};
-use crate::{MOST_STEPS, SHEET_LINES, STEP_LINES};
-use codes::{INVALID_CREDENTIALS, MALFORMED};
+use crate::state::{State, StepAnswer};
+use crate::tables::{Tables, both_tables};
+use crate::{MOST_STEPS, SHEET_LINES};
+use arrayvec::ArrayVec;
 use credentials::Credentials;
-use format::Outcome;
-use hex_tables::{reading_table, writing_table};
+use format::PlanError;
+use line_reader::{Fault, Place};
 use sheet_reader::Front;
+use threads::Threads;
 
-// How many steps there are and what the last one leaves, or the first line of the steps that is at fault.
-#[derive(Clone, Copy)]
-enum StepsRun {
-    Done(usize, Credentials),
-    Fault(u32),
-}
-
-// The steps from the position first to the end of the text, the first of them on the credentials start. Their codes, values and
-// causes are the first of the three arrays.
-fn run_steps(
+// The steps from a place to the end of the text, taken in the state one after the other, and what they answer; or the fault.
+fn run_steps<S: State>(
     text: &[u8],
-    first: usize,
-    start: Credentials,
-    codes: &mut [u8; 256],
-    values: &mut [u64; 256],
-    causes: &mut [u8; 256],
-    table: &[u8; 256],
-) -> StepsRun
-    requires { (length codes.old ≡ 256) × (length values.old ≡ 256) × (length causes.old ≡ 256) × (table.now ≡ reading_table) }
-    ensures { (seen_steps result codes.new values.new causes.new ≡ ran_steps 256 start (drop first text.now)) × StepsEnd result × (length codes.new ≡ 256) × (length values.new ≡ 256) × (length causes.new ≡ 256) }
+    first: Place,
+    state: &mut S,
+    answers: &mut ArrayVec<StepAnswer, MOST_STEPS>,
+    tables: &Tables,
+) -> Result<(), Fault>
+    requires { (answers.old.items ≡ []) × (first.lines ≤ 15) }
+    ensures { seen_steps result state.new answers.new.items ≡ below first.lines (ran_by S.kind 256 state.old (drop first.at text.now)) }
 {
-    let mut held = start;
-    let mut at = first;
-    let mut count: usize = 0;
-    while at < text.len() {
-        if count == MOST_STEPS {
-            return StepsRun::Fault(STEP_LINES * (count as u32) + 1);
+    let mut place = first;
+    // A `while`: where the next step begins is what the step's reader answers.
+    while place.at < text.len() {
+        if answers.is_full() {
+            return Err(Fault {
+                line: place.lines + 1,
+            });
         }
-        match run_step(text, at, held, table) {
-            StepRun::Fault(line) => {
-                return StepsRun::Fault(STEP_LINES * (count as u32) + line);
-            }
-            StepRun::Done(given, next) => {
-                codes[count] = given.code;
-                values[count] = given.value;
-                causes[count] = given.cause;
-                held = given.after;
-                at = next;
-                count += 1;
-            }
-        }
+        let (answer, next) = state.take_step(text, place, tables)?;
+        answers.push(answer);
+        place = next;
     }
-    StepsRun::Done(count, held)
+    Ok(())
 }
 
 // The plan's report in the buffer, or a refusal that leaves it as it was.
-pub fn run_plan(plan: &[u8], report: &mut [u8]) -> Outcome
+pub fn run_plan(plan: &[u8], report: &mut [u8]) -> Result<u32, PlanError>
     ensures { (result ≡ outcome (verdict plan.now) (length report.old)) × (report.new ≡ buffer (verdict plan.now) report.old) }
 {
-    let reading = reading_table();
-    let writing = writing_table();
-    match sheet_reader::read_front(plan, &reading) {
-        Front::Fault(line) => refused(MALFORMED, line),
-        Front::Invalid(start, first) => {
-            run_from(plan, first, start, false, report, &reading, &writing)
-        }
-        Front::Sheet(start, first) => {
-            run_from(plan, first, start, true, report, &reading, &writing)
-        }
-    }
+    run::<Credentials>(plan, report)
 }
 
-// A plan whose sheet ends at the position first and has the credentials start, accepted where they are valid: a fault further on
-// comes first.
-fn run_from(
+// The slot plan's report in the buffer, or a refusal that leaves it as it was.
+pub fn run_slot_plan(plan: &[u8], report: &mut [u8]) -> Result<u32, PlanError>
+    ensures { (result ≡ outcome (slot_verdict plan.now) (length report.old)) × (report.new ≡ buffer (slot_verdict plan.now) report.old) }
+{
+    run::<Threads>(plan, report)
+}
+
+// A plan of either kind.
+fn run<S: State>(plan: &[u8], report: &mut [u8]) -> Result<u32, PlanError>
+    requires { EndsIn S.kind S.Sound }
+    ensures { (result ≡ outcome (verdict_by S.kind plan.now) (length report.old)) × (report.new ≡ buffer (verdict_by S.kind plan.now) report.old) }
+{
+    let tables = both_tables();
+    let front = sheet_reader::read_front(plan, &tables.reading)?;
+    run_from::<S>(plan, front, report, &tables)
+}
+
+// A plan that begins with this sheet: a fault further on comes before a start that is not valid. It is a function of its own, since the room for the answers
+// is cleared where a function begins, also for a plan that is refused at its sheet.
+fn run_from<S: State>(
     plan: &[u8],
-    first: usize,
-    start: Credentials,
-    accepted: bool,
+    front: Front,
     report: &mut [u8],
-    reading: &[u8; 256],
-    writing: &[u8; 16],
-) -> Outcome
-    requires { (read_front plan.now ≡ read start (drop first plan.now)) × (valid start ≡ accepted) × (reading.now ≡ reading_table) × (writing.now ≡ writing_table) }
-    ensures { (result ≡ outcome (verdict plan.now) (length report.old)) × (report.new ≡ buffer (verdict plan.now) report.old) }
+    tables: &Tables,
+) -> Result<u32, PlanError>
+    requires { (read_front plan.now ≡ read front.credentials (drop front.end plan.now)) × (valid front.credentials ≡ front.is_valid) × EndsIn S.kind S.Sound }
+    ensures { (result ≡ outcome (verdict_by S.kind plan.now) (length report.old)) × (report.new ≡ buffer (verdict_by S.kind plan.now) report.old) }
 {
-    let mut codes = [0u8; 256];
-    let mut values = [0u64; 256];
-    let mut causes = [0u8; 256];
-    match run_steps(
-        plan,
-        first,
-        start,
-        &mut codes,
-        &mut values,
-        &mut causes,
-        reading,
-    ) {
-        StepsRun::Fault(line) => {
-            return refused(MALFORMED, SHEET_LINES + line);
-        }
-        StepsRun::Done(count, last) => {
-            if accepted {
-                return write_report(report, &codes, &values, &causes, count, last, writing);
-            }
-            return refused(INVALID_CREDENTIALS, 0);
-        }
+    let mut state = S::at_start(front.credentials);
+    let mut answers = ArrayVec::new();
+    let first = Place {
+        at: front.end,
+        lines: SHEET_LINES,
+    };
+    run_steps(plan, first, &mut state, &mut answers, tables)?;
+    if !front.is_valid {
+        return Err(PlanError::Invalid);
     }
-}
-
-// A plan that is refused.
-pub(crate) fn refused(code: u8, line: u32) -> Outcome
-    ensures { result ≡ record { code = code; line = line; length = 0 } }
-{
-    Outcome {
-        code,
-        line,
-        length: 0,
-    }
+    write_report(report, &answers, &state, tables)
 }

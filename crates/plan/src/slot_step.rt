@@ -1,73 +1,87 @@
 // One step of a slot plan: its six lines read, and its turn taken.
-ghost use Rattle.std.specs.Prelude.{◌≡◌, ◌≤◌, length, take, drop};
-ghost use Rattle.slot_format.specs.SlotPlan.{read_slot_step};
-ghost use Rattle.slots.specs.Turn.{step_of, turn_of};
-ghost use Rattle.hex_tables.specs.Tables.{reading_table};
-ghost use Rattle.plan.specs.Inside.{seen_slot_step, SlotStepEnd};
+ghost use Rattle.std.specs.Prelude.{◌≡◌, ◌<◌};
+ghost use Rattle.slots.specs.Turn.{turn_of};
+ghost use Rattle.line_reader.specs.Positions.{valued};
+ghost use Rattle.plan.specs.Inside.{said, slot_said, slot_step_by, UsedValid, table_kind};
 
-use crate::step::read_operands;
+use crate::slot_report::{slots_length, write_slots};
+use crate::state::{State, StepAnswer};
+use crate::step::{StepLines, read_step};
+use crate::tables::Tables;
 use credentials::Credentials;
-use line_reader::{Place, read_attribute, read_decimal};
+use line_reader::{Place, Read, read_decimal};
 use slots::Turn;
+use threads::Threads;
 
 // The largest slot number that can be written.
 const LARGEST_SLOT: u32 = 99;
 
-// What the six lines of a step say, the attribute's bytes at the front of 24; and the place past them, or the first that is at fault.
-#[derive(Clone, Copy)]
+// What the lines of a step say.
+#[derive(Drop)]
 pub(crate) struct SlotLines {
     pub slot: u64,
-    pub number: u64,
-    pub a: u64,
-    pub b: u64,
-    pub c: u64,
-    pub size: usize,
-    pub bytes: [u8; 24],
-    pub place: Place,
+    pub step: StepLines,
 }
 
-// The step at the position at, read.
-pub(crate) fn read_slot_step(text: &[u8], at: usize, table: &[u8; 256]) -> SlotLines
-    requires { table.now ≡ reading_table }
-    ensures { (seen_slot_step result text.now ≡ read_slot_step (drop at text.now)) × SlotStepEnd result }
+// The step at a place, its hex digits by the table.
+#[tactic(auto, unfolding(line_reader::specs::Positions::lines_at, format::specs::Step::step_kinds))]
+fn read_slot_step(text: &[u8], place: Place, table: &[u8; 256]) -> Read<SlotLines>
+    ensures { valued slot_said result ≡ slot_step_by table.now text.now place }
 {
-    let start = Place {
-        at,
-        lines: 0,
-        fault: false,
-    };
-    let named = read_decimal(text, start, b"slot=", LARGEST_SLOT);
-    let operands = read_operands(text, named.place, table);
-    let attribute = read_attribute(text, operands.place, b"attr=", table);
-    let bytes = attribute.bytes;
-    let place = attribute.place;
-    SlotLines {
-        slot: named.value,
-        number: operands.number,
-        a: operands.a,
-        b: operands.b,
-        c: operands.c,
-        size: attribute.size,
-        bytes,
-        place,
-    }
+    let (slot, place) = read_decimal(text, place, b"slot=", LARGEST_SLOT)?;
+    let (step, place) = read_step(text, place, table)?;
+    Ok((SlotLines { slot, step }, place))
 }
 
-// The turn of a step that was read, by the use marks and the credentials of its slot.
-pub(crate) fn turn_of(lines: SlotLines, used: [bool; 96], held: Credentials) -> Turn
-    requires { (lines.size ≤ 24) × (length lines.bytes ≡ 24) }
-    ensures { result ≡ turn_of used lines.slot held (step_of lines.number lines.a lines.b lines.c (take lines.size lines.bytes)) }
+// The turn of a step that was read, by the use marks and the credentials of its slot; it is stored in one of the 96.
+fn turn_of(lines: SlotLines, used: [bool; 96], held: Credentials) -> Turn
+    ensures { (result ≡ turn_of used lines.slot held (said lines.step)) × (result.to < 96) }
 {
-    let bytes = lines.bytes;
-    let size = lines.size;
+    let step = lines.step;
     slots::take_turn(
         used,
         lines.slot,
         held,
-        lines.number,
-        lines.a,
-        lines.b,
-        lines.c,
-        &bytes[0..size],
+        step.number,
+        step.a,
+        step.b,
+        step.c,
+        step.attribute.as_slice(),
     )
+}
+
+// A slot plan's steps are taken in a table of threads, and the report ends with the slots in use.
+impl State for Threads {
+    ghost kind = { table_kind };
+
+    ghost Sound = { UsedValid };
+
+    fn at_start(start: Credentials) -> Threads {
+        slots::fresh(start)
+    }
+
+    fn take_step(&mut self, text: &[u8], place: Place, tables: &Tables) -> Read<StepAnswer> {
+        let (lines, end) = read_slot_step(text, place, &tables.reading)?;
+        let i = slots::place(lines.slot);
+        let held = self.credentials[i];
+        let turn = turn_of(lines, self.used, held);
+        let to = turn.to;
+        let stored = turn.credentials;
+        self.credentials[to] = stored;
+        self.used[to] = turn.used;
+        let given = StepAnswer {
+            code: turn.code,
+            cause: turn.cause,
+            value: turn.value,
+        };
+        Ok((given, end))
+    }
+
+    fn text_length(&self) -> usize {
+        slots_length(self)
+    }
+
+    fn write_text(&self, buf: &mut [u8], at: usize, tables: &Tables) {
+        write_slots(buf, at, self, tables);
+    }
 }

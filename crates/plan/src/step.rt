@@ -1,94 +1,76 @@
-// One step: its five lines read, and its call performed.
-ghost use Rattle.std.specs.Prelude.{◌≡◌, [], ◌∷◌, drop};
-ghost use Rattle.format.specs.Line.{mapped};
-ghost use Rattle.format.specs.Step.{step_kinds, read_step};
-ghost use Rattle.rules.specs.Run.{result as step_result};
-ghost use Rattle.hex_tables.specs.Tables.{reading_table};
-ghost use Rattle.line_reader.specs.Positions.{lines_by};
-ghost use Rattle.plan.specs.Inside.{seen_step, StepEnd};
+// One step of a plan: its five lines read, and its call performed.
+ghost use Rattle.std.specs.Prelude.{◌≡◌, true};
+ghost use Rattle.credentials.specs.Validity.{valid};
+ghost use Rattle.line_reader.specs.Positions.{valued};
+ghost use Rattle.plan.specs.Inside.{said, step_by, thread_kind};
 
+use crate::state::{State, StepAnswer};
+use crate::tables::Tables;
 use credentials::Credentials;
-use line_reader::{Place, read_attribute, read_decimal, read_hex16};
+use line_reader::{AttributeBytes, Place, Read, read_attribute, read_decimal, read_hex};
 
 // The largest call number that can be written.
 const LARGEST_CALL: u32 = 99;
 
-// A step's first four lines, and the place past them.
-#[derive(Clone, Copy)]
-pub(crate) struct Operands {
+// What the lines of a step say.
+#[derive(Drop)]
+pub(crate) struct StepLines {
     pub number: u64,
     pub a: u64,
     pub b: u64,
     pub c: u64,
-    pub place: Place,
+    pub attribute: AttributeBytes,
 }
 
-// What a step gives: its code, its cause, its value and the credentials after it. The two bytes stand together, so that no padding comes between the value
-// and the credentials: with some, copies of these are slow.
-#[derive(Clone, Copy)]
-pub(crate) struct StepResult {
-    pub code: u8,
-    pub cause: u8,
-    pub value: u64,
-    pub after: Credentials,
-}
-
-// A step's result and the position past the step, or the first of its lines that is at fault.
-#[derive(Clone, Copy)]
-pub(crate) enum StepRun {
-    Done(StepResult, usize),
-    Fault(u32),
-}
-
-// The lines of a call's number and its operands, by the table, at a place.
-pub(crate) fn read_operands(text: &[u8], place: Place, table: &[u8; 256]) -> Operands
-    ensures { lines_by table.now step_kinds text.now place ≡ record { values = result.number ∷ result.a ∷ result.b ∷ result.c ∷ []; place = result.place } }
+// The step at a place, its hex digits by the table.
+#[tactic(auto, unfolding(line_reader::specs::Positions::lines_at, format::specs::Step::step_kinds))]
+pub(crate) fn read_step(text: &[u8], place: Place, table: &[u8; 256]) -> Read<StepLines>
+    ensures { valued said result ≡ step_by table.now text.now place }
 {
-    let number = read_decimal(text, place, b"call=", LARGEST_CALL);
-    let a = read_hex16(text, number.place, b"a=", table);
-    let b = read_hex16(text, a.place, b"b=", table);
-    let c = read_hex16(text, b.place, b"c=", table);
-    let place = c.place;
-    Operands {
-        number: number.value,
-        a: a.value,
-        b: b.value,
-        c: c.value,
-        place,
-    }
+    let (number, place) = read_decimal(text, place, b"call=", LARGEST_CALL)?;
+    let (a, place) = read_hex::<16>(text, place, b"a=", table)?;
+    let (b, place) = read_hex::<16>(text, place, b"b=", table)?;
+    let (c, place) = read_hex::<16>(text, place, b"c=", table)?;
+    let (attribute, place) = read_attribute(text, place, b"attr=", table)?;
+    let lines = StepLines {
+        number,
+        a,
+        b,
+        c,
+        attribute,
+    };
+    Ok((lines, place))
 }
 
-// The step at the position at, performed on the credentials held.
-pub(crate) fn run_step(text: &[u8], at: usize, held: Credentials, table: &[u8; 256]) -> StepRun
-    requires { table.now ≡ reading_table }
-    ensures { (seen_step result text.now ≡ mapped (step_result held) (read_step (drop at text.now))) × StepEnd result }
-{
-    let start = Place {
-        at,
-        lines: 0,
-        fault: false,
-    };
-    let operands = read_operands(text, start, table);
-    let attribute = read_attribute(text, operands.place, b"attr=", table);
-    let end = attribute.place;
-    if end.fault {
-        return StepRun::Fault(end.lines);
+// A plan's steps are taken in one thread's credentials, and the report ends with their sheet.
+impl State for Credentials {
+    ghost kind = { thread_kind };
+
+    ghost Sound = { λ held. valid held ≡ true };
+
+    fn at_start(start: Credentials) -> Credentials {
+        start
     }
-    let bytes = attribute.bytes;
-    let size = attribute.size;
-    let answer = calls::perform(
-        held,
-        operands.number,
-        operands.a,
-        operands.b,
-        operands.c,
-        &bytes[0..size],
-    );
-    let given = StepResult {
-        code: answers::code(answer),
-        cause: answers::cause(answer),
-        value: answers::value(answer),
-        after: answers::after(held, answer),
-    };
-    StepRun::Done(given, end.at)
+
+    fn take_step(&mut self, text: &[u8], place: Place, tables: &Tables) -> Read<StepAnswer> {
+        let (step, end) = read_step(text, place, &tables.reading)?;
+        let held = *self;
+        let attribute = step.attribute.as_slice();
+        let answer = calls::perform(held, step.number, step.a, step.b, step.c, attribute);
+        let given = StepAnswer {
+            code: answers::code(answer),
+            cause: answers::cause(answer),
+            value: answers::value(answer),
+        };
+        *self = answers::after(held, answer);
+        Ok((given, end))
+    }
+
+    fn text_length(&self) -> usize {
+        sheet_writer::sheet_length(*self)
+    }
+
+    fn write_text(&self, buf: &mut [u8], at: usize, tables: &Tables) {
+        let _ = sheet_writer::write_at(buf, at, *self, &tables.writing);
+    }
 }

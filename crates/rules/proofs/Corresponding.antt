@@ -6,25 +6,22 @@ use mathlib.Core.List.{List}
 use native.Mathlib.Decide.{dec_lt}
 use native.Mathlib.Omega.{arith}
 use lib.ListN.{length}
+use Rattle.std.specs.Prelude.{Option, Some, None, Err}
 use Rattle.capabilities.specs.Sets.{has, minus, outside, single}
 use Rattle.capabilities.specs.Header.{CAP_SETUID}
 use Rattle.credentials.specs.Validity.{ids_in_range, valid}
 use Rattle.credentials.specs.declared.Ids.{Ids}
 use Rattle.credentials.specs.declared.Credentials.{Credentials}
 use Rattle.credentials.proofs.Valid.{ids_in_range_lem, valid_facts}
-use Rattle.rules.specs.Answers.{after, cause, code, value}
+use Rattle.rules.specs.Answers.{after, Answer, cause, code, value}
 use Rattle.rules.specs.Ids.{filesystem_group_id_changed, filesystem_user_id_changed, group_ids_changed, may_set_any_group_id, may_set_any_user_id, setfsgid, setfsuid, setfsuid_on, setgid, setregid, setresgid, setresuid, setresuid_on, setreuid, setreuid_on, setuid, setuid_on, user_ids_changed}
 use Rattle.rules.specs.Decoding.{decode, known}
 use Rattle.rules.specs.Call.{answer, decoded, performed}
 use Rattle.rules.specs.Run.{Step, result}
 use Rattle.rules.specs.CallsOnIds.{Counterpart, CallsOnIds, OnGroupIds}
-use Rattle.rules.specs.declared.Answer.{Answer}
-use Rattle.rules.specs.declared.Answer.TheVariants.{InvalidArgument, InvalidCredentials}
+use Rattle.rules.specs.declared.Refusal.TheVariants.{InvalidArgument, InvalidCredentials}
 use Rattle.rules.specs.declared.Call.{Call}
 use Rattle.rules.specs.declared.Call.TheVariants.{Setuid, Setreuid, Setresuid, Setfsuid, Setgid, Setregid, Setresgid, Setfsgid}
-use Rattle.rules.specs.declared.Decoded.{Decoded}
-use Rattle.rules.specs.declared.NewIds.{NewIds}
-use Rattle.rules.specs.declared.NewIds.TheVariants.{Allowed, NotAllowed}
 use Rattle.rules.proofs.OneCall.{answered}
 
 -- ---- one of four numbers
@@ -61,21 +58,21 @@ module _ (c : Credentials) where
   abbrev same : GroupIdsOnly c c
   same = record { sets = refl; uids = refl; securebits = refl; nnp = refl }
 
-  group_ids_only : (n : NewIds) → GroupIdsOnly c (after c (group_ids_changed c n))
-  group_ids_only (Allowed new) = record { sets = refl; uids = refl; securebits = refl; nnp = refl }
-  group_ids_only NotAllowed = same
+  group_ids_only : (n : Option Ids) → GroupIdsOnly c (after c (group_ids_changed c n))
+  group_ids_only (Some new) = record { sets = refl; uids = refl; securebits = refl; nnp = refl }
+  group_ids_only None = same
 
-  filesystem_group_id_only : (n : NewIds) → GroupIdsOnly c (after c (filesystem_group_id_changed c n))
-  filesystem_group_id_only (Allowed new) = record { sets = refl; uids = refl; securebits = refl; nnp = refl }
-  filesystem_group_id_only NotAllowed = same
+  filesystem_group_id_only : (n : Option Ids) → GroupIdsOnly c (after c (filesystem_group_id_changed c n))
+  filesystem_group_id_only (Some new) = record { sets = refl; uids = refl; securebits = refl; nnp = refl }
+  filesystem_group_id_only None = same
 
-  no_group_id : (n : NewIds) → (after c (user_ids_changed c n)).gids ≡ c.gids
-  no_group_id (Allowed new) = refl
-  no_group_id NotAllowed = refl
+  no_group_id : (n : Option Ids) → (after c (user_ids_changed c n)).gids ≡ c.gids
+  no_group_id (Some new) = refl
+  no_group_id None = refl
 
-  no_filesystem_group_id : (n : NewIds) → (after c (filesystem_user_id_changed c n)).gids ≡ c.gids
-  no_filesystem_group_id (Allowed new) = refl
-  no_filesystem_group_id NotAllowed = refl
+  no_filesystem_group_id : (n : Option Ids) → (after c (filesystem_user_id_changed c n)).gids ≡ c.gids
+  no_filesystem_group_id (Some new) = refl
+  no_filesystem_group_id None = refl
 
   module _ (x y z : ℕ) (s : List ℕ) where
     on_group_ids : (number : ℕ) → 19 ≤ number → number ≤ 22 → GroupIdsOnly c (after c (answer c number x y z s))
@@ -110,31 +107,31 @@ module _ (c d : Credentials) (w : Counterpart c d) where
     causes : cause r ≡ cause q
     ids : (after c r).gids ≡ (after d q).uids
 
-  refused : Same InvalidArgument InvalidArgument
+  refused : Same (Err InvalidArgument) (Err InvalidArgument)
   refused = record { codes = refl; values = refl; causes = refl; ids = sym w.ids }
 
-  invalid : Same InvalidCredentials InvalidCredentials
+  invalid : Same (Err InvalidCredentials) (Err InvalidCredentials)
   invalid = record { codes = refl; values = refl; causes = refl; ids = sym w.ids }
 
-  same_change : (n m : NewIds) → n ≡ m → Same (group_ids_changed c n) (user_ids_changed d m)
-  same_change n m e = subst (λ (x : NewIds). Same (group_ids_changed c n) (user_ids_changed d x)) e (either n)
+  same_change : (n m : Option Ids) → n ≡ m → Same (group_ids_changed c n) (user_ids_changed d m)
+  same_change n m e = subst (λ (x : Option Ids). Same (group_ids_changed c n) (user_ids_changed d x)) e (either n)
     where
-      either : (x : NewIds) → Same (group_ids_changed c x) (user_ids_changed d x)
-      either (Allowed new) = record { codes = refl; values = refl; causes = refl; ids = refl }
-      either NotAllowed = record { codes = refl; values = refl; causes = refl; ids = sym w.ids }
+      either : (x : Option Ids) → Same (group_ids_changed c x) (user_ids_changed d x)
+      either (Some new) = record { codes = refl; values = refl; causes = refl; ids = refl }
+      either None = record { codes = refl; values = refl; causes = refl; ids = sym w.ids }
 
-  same_filesystem_change : (n m : NewIds) → n ≡ m → Same (filesystem_group_id_changed c n) (filesystem_user_id_changed d m)
-  same_filesystem_change n m e = subst (λ (x : NewIds). Same (filesystem_group_id_changed c n) (filesystem_user_id_changed d x)) e (either n)
+  same_filesystem_change : (n m : Option Ids) → n ≡ m → Same (filesystem_group_id_changed c n) (filesystem_user_id_changed d m)
+  same_filesystem_change n m e = subst (λ (x : Option Ids). Same (filesystem_group_id_changed c n) (filesystem_user_id_changed d x)) e (either n)
     where
       old : c.gids.filesystem ≡ d.uids.filesystem
       old = ap (λ (u : Ids). u.filesystem) (sym w.ids)
 
-      either : (x : NewIds) → Same (filesystem_group_id_changed c x) (filesystem_user_id_changed d x)
-      either (Allowed new) = record { codes = refl; values = old; causes = refl; ids = refl }
-      either NotAllowed = record { codes = refl; values = old; causes = refl; ids = sym w.ids }
+      either : (x : Option Ids) → Same (filesystem_group_id_changed c x) (filesystem_user_id_changed d x)
+      either (Some new) = record { codes = refl; values = old; causes = refl; ids = refl }
+      either None = record { codes = refl; values = old; causes = refl; ids = sym w.ids }
 
   -- what depends on the four IDs and on whether any may be set is the same of both
-  alike : (f : Bool → Ids → NewIds) → f (may_set_any_group_id c) c.gids ≡ f (may_set_any_user_id d) d.uids
+  alike : (f : Bool → Ids → Option Ids) → f (may_set_any_group_id c) c.gids ≡ f (may_set_any_user_id d) d.uids
   alike f = sym (λ i. f (w.may_set_any i) (w.ids i))
 
   -- two calls that are right alike
@@ -143,12 +140,12 @@ module _ (c d : Credentials) (w : Counterpart c d) where
       → Same (performed c s k) (performed d s l) → Same (answer c number x y z s) (answer d other x y z s)
   unfolding answer known
   same_answer number other x y z s right k l e f h =
-      subst (λ (t : Bool). Same (answer c number x y z s) (cond t (decoded d s (decode other x y z (length s))) InvalidCredentials)) (sym w.valid_alike)
-      (subst (λ (q : Decoded). Same (answer c number x y z s) (cond (valid c) (decoded d s q) InvalidCredentials)) (sym f)
-      (subst (λ (q : Decoded). Same (cond (valid c) (decoded c s q) InvalidCredentials) (cond (valid c) (decoded d s (known right l)) InvalidCredentials)) (sym e)
+      subst (λ (t : Bool). Same (answer c number x y z s) (cond t (decoded d s (decode other x y z (length s))) (Err InvalidCredentials))) (sym w.valid_alike)
+      (subst (λ (q : Option Call). Same (answer c number x y z s) (cond (valid c) (decoded d s q) (Err InvalidCredentials))) (sym f)
+      (subst (λ (q : Option Call). Same (cond (valid c) (decoded c s q) (Err InvalidCredentials)) (cond (valid c) (decoded d s (known right l)) (Err InvalidCredentials))) (sym e)
       (judged (valid c) right)))
     where
-      judged : (t r : Bool) → Same (cond t (decoded c s (known r k)) InvalidCredentials) (cond t (decoded d s (known r l)) InvalidCredentials)
+      judged : (t r : Bool) → Same (cond t (decoded c s (known r k)) (Err InvalidCredentials)) (cond t (decoded d s (known r l)) (Err InvalidCredentials))
       judged true true = h
       judged true false = refused
       judged false r = invalid

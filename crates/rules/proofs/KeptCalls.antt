@@ -7,19 +7,19 @@ use native.Mathlib.Omega.{arith}
 use lib.Dec.{eqb}
 use lib.ListN.{length}
 use borrow.Author.Tests.{leb-true}
+use Rattle.std.specs.Prelude.{Option, Some, None, Result, Ok, Err}
 use Rattle.capabilities.specs.Sets.{lacks, union, minus, single, Within}
 use Rattle.capabilities.specs.Header.{CAP_SETPCAP}
 use Rattle.capabilities.proofs.Inclusion.{and_l, and_r, minus_sub, none_sub, not_lacks, not_outside, or_false_l, or_false_r, single_sub, sub_refl, union_sub}
 use Rattle.attribute.specs.declared.FileCapabilities.{FileCapabilities}
-use Rattle.attribute.specs.declared.Reading.{Reading}
-use Rattle.attribute.specs.declared.Reading.TheVariants.{File, Unreadable}
+use Rattle.attribute.specs.declared.ReadError.{ReadError}
 use Rattle.credentials.specs.Validity.{id_in_range, securebits_in_range, valid}
 use Rattle.credentials.specs.declared.Ids.{Ids}
 use Rattle.credentials.specs.declared.Sets.{Sets}
 use Rattle.credentials.specs.declared.Credentials.{Credentials}
 use Rattle.credentials.proofs.Valid.{Valid, ValidIds}
 use Rattle.rules.specs.Fields.{with_gids, with_sets}
-use Rattle.rules.specs.Answers.{code, after}
+use Rattle.rules.specs.Answers.{after, Answer, code}
 use Rattle.rules.specs.Launching.{SET_GROUP_ID, SET_USER_ID, falls_short, file_read, in_force, is_privileged, launch, launched, launched_ambient, launch_of}
 use Rattle.rules.specs.Capset.{beyond_bounding, beyond_permitted, capset, effective_exceeds, permitted_grows}
 use Rattle.rules.specs.Bounding.{bounding_drop, bounding_read}
@@ -29,12 +29,8 @@ use Rattle.rules.specs.ThreadFlags.{get_keep_caps, get_no_new_privs, keep_caps_l
 use Rattle.rules.specs.Ids.{filesystem_group_id_changed, filesystem_user_id_changed, group_ids_changed, may_set_any_group_id, may_set_any_user_id, setfsgid, setfsuid, setfsuid_on, setgid, setregid, setresgid, setresuid, setresuid_on, setreuid, setreuid_on, setuid, setuid_on, user_ids_changed}
 use Rattle.rules.specs.Decoding.{capability_in_range, decode, flags_in_range, id_or_none, known, uses_one, uses_three, uses_two}
 use Rattle.rules.specs.Call.{answer, decoded, performed}
-use Rattle.rules.specs.declared.Answer.{Answer}
-use Rattle.rules.specs.declared.Answer.TheVariants.{Done, InvalidArgument, InvalidCredentials, NotPermitted, UnreadableAttribute}
+use Rattle.rules.specs.declared.Refusal.TheVariants.{InvalidArgument, InvalidCredentials, NotPermitted, UnreadableAttribute}
 use Rattle.rules.specs.declared.Call.{Call}
-use Rattle.rules.specs.declared.Decoded.{Decoded}
-use Rattle.rules.specs.declared.NewIds.{NewIds}
-use Rattle.rules.specs.declared.NewIds.TheVariants.{Allowed, NotAllowed}
 use Rattle.rules.proofs.Conditions.{cond_cases, cond_with}
 use Rattle.rules.proofs.KeptIds.{NewValid, launched_valid, setfsuid_valid, setresuid_valid, setreuid_valid, setuid_valid}
 use Rattle.rules.proofs.KeptSets.{SetsKept, kept_after, kept_after_filesystem, kept_ambient, kept_bounding, kept_capset, kept_launched, kept_same, kept_then, kept_valid}
@@ -62,24 +58,21 @@ sets_change v h = record { uids = v.uids; gids = v.gids; sets = h; securebits = 
 
 -- an answer that is done keeps what is to be kept
 abbrev Keeps : Bool → Credentials → Answer → Type 0
-Keeps x c (Done v d) = Kept x c d
-Keeps x c (NotPermitted why) = Unit {0}
-Keeps x c InvalidArgument = Unit {0}
-Keeps x c UnreadableAttribute = Unit {0}
-Keeps x c InvalidCredentials = Unit {0}
+Keeps x c (Ok d) = Kept x c d.after
+Keeps x c (Err why) = Unit {0}
 
 -- a refusal keeps everything, and is no launch that was done
 pub kept_by : {c : Credentials} → Valid c → (x : Bool) (r : Answer) → Keeps x c r → Kept (x && eqb (code r) 0) c (after c r)
-kept_by v true (Done n d) k = k
-kept_by v false (Done n d) k = k
-kept_by v true (NotPermitted why) k = nothing_changes v
-kept_by v false (NotPermitted why) k = nothing_changes v
-kept_by v true InvalidArgument k = nothing_changes v
-kept_by v false InvalidArgument k = nothing_changes v
-kept_by v true UnreadableAttribute k = nothing_changes v
-kept_by v false UnreadableAttribute k = nothing_changes v
-kept_by v true InvalidCredentials k = nothing_changes v
-kept_by v false InvalidCredentials k = nothing_changes v
+kept_by v true (Ok d) k = k
+kept_by v false (Ok d) k = k
+kept_by v true (Err (NotPermitted why)) k = nothing_changes v
+kept_by v false (Err (NotPermitted why)) k = nothing_changes v
+kept_by v true (Err InvalidArgument) k = nothing_changes v
+kept_by v false (Err InvalidArgument) k = nothing_changes v
+kept_by v true (Err UnreadableAttribute) k = nothing_changes v
+kept_by v false (Err UnreadableAttribute) k = nothing_changes v
+kept_by v true (Err InvalidCredentials) k = nothing_changes v
+kept_by v false (Err InvalidCredentials) k = nothing_changes v
 
 module _ (c : Credentials) (v : Valid c) where
   -- ---- calls 2 to 8
@@ -165,26 +158,26 @@ module _ (c : Credentials) (v : Valid c) where
 
   -- ---- calls 15 to 22
 
-  user_ids_keep : (n : NewIds) → NewValid n → Keeps false c (user_ids_changed c n)
-  user_ids_keep (Allowed new) w =
+  user_ids_keep : (n : Option Ids) → NewValid n → Keeps false c (user_ids_changed c n)
+  user_ids_keep (Some new) w =
       record { uids = w; gids = v.gids; sets = kept_after c.uids new v.sets c.securebits; securebits = bits_same v.securebits_small }
-  user_ids_keep NotAllowed w = tt
+  user_ids_keep None w = tt
 
-  filesystem_user_id_keeps : (n : NewIds) → NewValid n → Keeps false c (filesystem_user_id_changed c n)
-  filesystem_user_id_keeps (Allowed new) w =
+  filesystem_user_id_keeps : (n : Option Ids) → NewValid n → Keeps false c (filesystem_user_id_changed c n)
+  filesystem_user_id_keeps (Some new) w =
       record { uids = w; gids = v.gids; sets = kept_after_filesystem c.uids new v.sets c.securebits; securebits = bits_same v.securebits_small }
-  filesystem_user_id_keeps NotAllowed w = nothing_changes v
+  filesystem_user_id_keeps None w = nothing_changes v
 
   groups_change : {g : Ids} → ValidIds g → Kept false c (with_gids c g)
   groups_change w = record { uids = v.uids; gids = w; sets = kept_same v.sets; securebits = bits_same v.securebits_small }
 
-  group_ids_keep : (n : NewIds) → NewValid n → Keeps false c (group_ids_changed c n)
-  group_ids_keep (Allowed new) w = groups_change w
-  group_ids_keep NotAllowed w = tt
+  group_ids_keep : (n : Option Ids) → NewValid n → Keeps false c (group_ids_changed c n)
+  group_ids_keep (Some new) w = groups_change w
+  group_ids_keep None w = tt
 
-  filesystem_group_id_keeps : (n : NewIds) → NewValid n → Keeps false c (filesystem_group_id_changed c n)
-  filesystem_group_id_keeps (Allowed new) w = groups_change w
-  filesystem_group_id_keeps NotAllowed w = nothing_changes v
+  filesystem_group_id_keeps : (n : Option Ids) → NewValid n → Keeps false c (filesystem_group_id_changed c n)
+  filesystem_group_id_keeps (Some new) w = groups_change w
+  filesystem_group_id_keeps None w = nothing_changes v
 
   -- ---- call 1
 
@@ -199,10 +192,10 @@ module _ (c : Credentials) (v : Valid c) where
         securebits = bits_launched c.securebits v.securebits_small;
       }
 
-  launch_of_keeps : (owner flags group : ℕ) → owner ≤ 4294967294 → group ≤ 4294967294 → (r : Reading) → Keeps true c (launch_of c owner flags group r)
-  launch_of_keeps owner flags group ho hg (File f) =
+  launch_of_keeps : (owner flags group : ℕ) → owner ≤ 4294967294 → group ≤ 4294967294 → (r : Result FileCapabilities ReadError) → Keeps true c (launch_of c owner flags group r)
+  launch_of_keeps owner flags group ho hg (Ok f) =
       cond_cases (Keeps true c) (falls_short c.sets f) _ _ (λ k. tt) (λ k. launched_keeps owner flags group ho hg f)
-  launch_of_keeps owner flags group ho hg Unreadable = tt
+  launch_of_keeps owner flags group ho hg (Err e) = tt
 
   launch_keeps : (owner flags group : ℕ) → owner ≤ 4294967294 → group ≤ 4294967294 → (attribute : List ℕ) → Keeps true c (launch c owner flags group attribute)
   unfolding launch
@@ -211,7 +204,7 @@ module _ (c : Credentials) (v : Valid c) where
   -- ---- any number, operands and attribute
 
   module _ (s : List ℕ) where
-    abbrev Goes : Bool → Decoded → Type 0
+    abbrev Goes : Bool → Option Call → Type 0
     Goes x d = Keeps x c (decoded c s d)
 
     -- a call that is known if its operands are right, and that comes first
@@ -219,7 +212,7 @@ module _ (c : Credentials) (v : Valid c) where
     unfolding known
     when_known x right k h = cond_cases (Goes x) right _ _ h (λ t. tt)
 
-    or_else : (this right : Bool) (k : Call) (d : Decoded) → (right ≡ true → Keeps false c (performed c s k)) → Goes false d → Goes false (cond this (known right k) d)
+    or_else : (this right : Bool) (k : Call) (d : Option Call) → (right ≡ true → Keeps false c (performed c s k)) → Goes false d → Goes false (cond this (known right k) d)
     or_else this right k d h g = cond_cases (Goes false) this _ _ (λ t. when_known false right k h) (λ t. g)
 
     module _ (x y z size : ℕ) where

@@ -5,14 +5,13 @@ use mathlib.Core.Bool.{Bool, true, false, cond}
 use native.Mathlib.Omega.{arith}
 use lib.Dec.{eqb}
 use borrow.Author.Tests.{eqb-false, leb-true, not-true}
+use Rattle.std.specs.Prelude.{Option, Some, None}
 use Rattle.capabilities.proofs.Inclusion.{and_l}
 use Rattle.credentials.specs.declared.Ids.{Ids}
 use Rattle.credentials.proofs.Valid.{ValidIds}
 use Rattle.rules.specs.Ids.{NO_ID, given_or, is_given, setfsuid_changes, setfsuid_on, setresuid_allowed, setresuid_ids, setresuid_on, setreuid_allowed, setreuid_ids, setreuid_on, setreuid_saved, setreuid_saves, setuid_allowed, setuid_ids, setuid_on}
 use Rattle.rules.specs.Launching.{effective_id, launched_ids}
 use Rattle.rules.specs.Decoding.{id_or_none}
-use Rattle.rules.specs.declared.NewIds.{NewIds}
-use Rattle.rules.specs.declared.NewIds.TheVariants.{Allowed, NotAllowed}
 use Rattle.rules.proofs.Conditions.{cond_cases}
 
 -- ---- the operands
@@ -32,9 +31,9 @@ either_small false x y h k = k
 -- ---- the new IDs
 
 -- new IDs, where the call may make them, are valid
-abbrev pub NewValid : NewIds → Type 0
-NewValid (Allowed new) = ValidIds new
-NewValid NotAllowed = Unit {0}
+abbrev pub NewValid : Option Ids → Type 0
+NewValid (Some new) = ValidIds new
+NewValid None = Unit {0}
 
 module _ (any : Bool) (u : Ids) (v : ValidIds u) where
   pub setuid_valid : (id : ℕ) → id ≤ 4294967294 → NewValid (setuid_on any u id)

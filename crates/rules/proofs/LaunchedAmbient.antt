@@ -6,20 +6,20 @@ use mathlib.Core.List.{List}
 use lib.Dec.{eqb}
 use lib.ListN.{length}
 use borrow.Author.Tests.{eqb-false}
+use Rattle.std.specs.Prelude.{Result, Ok, Err}
 use Rattle.attribute.specs.Reader.{file_of, reading, revision, unreadable, version1, version2}
 use Rattle.attribute.specs.declared.FileCapabilities.{FileCapabilities}
-use Rattle.attribute.specs.declared.Reading.{Reading}
-use Rattle.attribute.specs.declared.Reading.TheVariants.{File, Unreadable}
+use Rattle.attribute.specs.declared.ReadError.{ReadError}
+use Rattle.attribute.specs.declared.ReadError.TheVariants.{Unreadable}
 use Rattle.credentials.specs.declared.Ids.{Ids}
 use Rattle.credentials.specs.declared.Credentials.{Credentials}
-use Rattle.rules.specs.Answers.{after, code}
+use Rattle.rules.specs.Answers.{after, Answer, code, done}
 use Rattle.rules.specs.Launching.{SET_GROUP_ID, SET_USER_ID, changes_effective, effective_id, falls_short, file_read, ignores_attribute, in_force, is_privileged, launch, launched, launched_ambient, launched_ids, launched_sets, launch_of}
 use Rattle.rules.specs.Decoding.{decode}
 use Rattle.rules.specs.Call.{answer}
 use Rattle.rules.specs.Run.{result}
 use Rattle.rules.specs.AmbientAfterLaunch.{AmbientAfterLaunch, ambient_after, attribute_counts, was_changed}
-use Rattle.rules.specs.declared.Answer.{Answer}
-use Rattle.rules.specs.declared.Answer.TheVariants.{Done, InvalidArgument, InvalidCredentials, NotPermitted, UnreadableAttribute}
+use Rattle.rules.specs.declared.Refusal.TheVariants.{InvalidArgument, InvalidCredentials, NotPermitted, UnreadableAttribute}
 use Rattle.rules.specs.declared.Cause.TheVariants.{LaunchFallsShort}
 use Rattle.rules.specs.declared.Call.TheVariants.{Execve}
 use Rattle.rules.proofs.Conditions.{cond_cases, cond_with}
@@ -27,9 +27,9 @@ use Rattle.rules.proofs.OneCall.{answered}
 
 -- ---- an attribute counts where one is attached to the file as it was read
 
-abbrev Attached : Bool → Reading → Type 0
-Attached t (File f) = f.attached ≡ t
-Attached t Unreadable = Unit {0}
+abbrev Attached : Bool → Result FileCapabilities ReadError → Type 0
+Attached t (Ok f) = f.attached ≡ t
+Attached t (Err e) = Unit {0}
 
 attached_read : (s : List ℕ) → Attached (not (eqb (length s) 0)) (reading s)
 unfolding reading file_of version1 version2
@@ -61,21 +61,21 @@ module _ (start : Credentials) (owner flags group : ℕ) (s : List ℕ) where
   refused : (r : Answer) → eqb (code r) 0 ≡ false → Says r
   refused r e h = absurd (eqb-false (code r) 0 e h)
 
-  launched_says : (f : FileCapabilities) → f.attached ≡ attribute_counts start.nnp flags s → Says (Done 0 (launched start owner flags group f))
+  launched_says : (f : FileCapabilities) → f.attached ≡ attribute_counts start.nnp flags s → Says (done 0 (launched start owner flags group f))
   unfolding launched launched_sets launched_ambient is_privileged
   launched_says f e h =
       let by_user = was_changed_lem (in_force start.nnp flags SET_USER_ID) owner start.uids in
       let by_group = was_changed_lem (in_force start.nnp flags SET_GROUP_ID) group start.gids in
       λ i. cond (e i || by_user i || by_group i) 0 start.sets.ambient
 
-  launch_of_says : (r : Reading) → Attached (attribute_counts start.nnp flags s) r → Says (launch_of start owner flags group r)
-  launch_of_says (File f) e = cond_cases Says (falls_short start.sets f) _ _ (λ t. refused (NotPermitted LaunchFallsShort) refl) (λ t. launched_says f e)
-  launch_of_says Unreadable e = refused UnreadableAttribute refl
+  launch_of_says : (r : Result FileCapabilities ReadError) → Attached (attribute_counts start.nnp flags s) r → Says (launch_of start owner flags group r)
+  launch_of_says (Ok f) e = cond_cases Says (falls_short start.sets f) _ _ (λ t. refused (Err (NotPermitted LaunchFallsShort)) refl) (λ t. launched_says f e)
+  launch_of_says (Err Unreadable) e = refused (Err UnreadableAttribute) refl
 
   answer_says : Says (answer start 1 owner flags group s)
   unfolding decode launch
   answer_says =
-      answered Says start (refused InvalidCredentials refl) (refused InvalidArgument refl) 1 owner flags group s _ (Execve owner flags group) refl
+      answered Says start (refused (Err InvalidCredentials) refl) (refused (Err InvalidArgument) refl) 1 owner flags group s _ (Execve owner flags group) refl
       (launch_of_says (file_read start.nnp flags s) (attached_counts start.nnp flags s))
 
 pub ambient_after_launch : AmbientAfterLaunch

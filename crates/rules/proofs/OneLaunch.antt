@@ -13,21 +13,19 @@ use Rattle.capabilities.proofs.Inclusion.{in_inter, in_single, in_union_l, in_un
 use Rattle.attribute.specs.Reader.{reading}
 use Rattle.attribute.specs.Writer.{version2_bytes}
 use Rattle.attribute.specs.declared.FileCapabilities.{FileCapabilities}
-use Rattle.attribute.specs.declared.Reading.TheVariants.{File}
+use Rattle.std.specs.Prelude.{Ok}
 use Rattle.attribute.proofs.ReadBack.{read_back, written_bytes}
 use Rattle.credentials.specs.Validity.{valid}
 use Rattle.credentials.specs.declared.Ids.{Ids}
 use Rattle.credentials.specs.declared.Sets.{Sets}
 use Rattle.credentials.specs.declared.Credentials.{Credentials}
 use Rattle.credentials.proofs.Valid.{Valid, valid_facts}
-use Rattle.rules.specs.Answers.{code, after}
+use Rattle.rules.specs.Answers.{after, Answer, code, done}
 use Rattle.rules.specs.Launching.{counted, counted_set, falls_short, file_read, gained, ignores_attribute, ignores_set_id, launch, launched, launched_sets, root_counts}
 use Rattle.rules.specs.Decoding.{decode, known}
 use Rattle.rules.specs.Call.{answer}
 use Rattle.rules.specs.Run.{result}
 use Rattle.rules.specs.Demand3.{OneLaunch}
-use Rattle.rules.specs.declared.Answer.{Answer}
-use Rattle.rules.specs.declared.Answer.TheVariants.{Done}
 use Rattle.rules.proofs.Conditions.{cond_cases}
 
 -- a capability is below 41
@@ -49,7 +47,7 @@ module _ (n : ℕ) (l : Has full n) where
   n_small : n < 64
   n_small = let k : n < 41 = capability_small l in omega arith
 
-  grant_reads : reading grant ≡ File granting
+  grant_reads : reading grant ≡ Ok granting
   grant_reads = read_back (single n) (single n) false (sub_not_outside (union_sub (single_sub n_small l) (single_sub n_small l)))
 
   -- whatever c of Launching makes of a set that has n has it
@@ -67,7 +65,7 @@ module _ (n : ℕ) (l : Has full n) where
       (λ m. in_union_r (inter s.inheritable f.inheritable) (in_inter p m)))
 
   module _ (start : Credentials) (v : valid start ≡ true) (clear : start.nnp ≡ false) where
-    launch_done : answer start 1 0 0 0 grant ≡ Done 0 (launched start 0 0 0 granting)
+    launch_done : answer start 1 0 0 0 grant ≡ done 0 (launched start 0 0 0 granting)
     unfolding answer decode known launch file_read ignores_attribute ignores_set_id falls_short
     launch_done = simp (v, clear, grant_reads)
 

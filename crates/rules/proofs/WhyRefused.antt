@@ -6,12 +6,13 @@ use mathlib.Core.List.{List, [], ◌∷◌}
 use lib.Dec.{eqb, leb}
 use lib.ListN.{length}
 use borrow.Author.Tests.{eq-eqb, eqb-true, leb-true, le-ltb}
+use Rattle.std.specs.Prelude.{Option, Some, None, Result, Ok, Err}
 use Rattle.capabilities.proofs.Inclusion.{and_l, and_r}
-use Rattle.attribute.specs.declared.Reading.{Reading}
-use Rattle.attribute.specs.declared.Reading.TheVariants.{File, Unreadable}
+use Rattle.attribute.specs.declared.FileCapabilities.{FileCapabilities}
+use Rattle.attribute.specs.declared.ReadError.{ReadError}
 use Rattle.credentials.specs.Validity.{valid}
 use Rattle.credentials.specs.declared.Credentials.{Credentials}
-use Rattle.rules.specs.Answers.{cause, cause_number, code}
+use Rattle.rules.specs.Answers.{Answer, cause, cause_number, code, done}
 use Rattle.rules.specs.Launching.{file_read, launch, launch_of}
 use Rattle.rules.specs.Capset.{capset}
 use Rattle.rules.specs.Bounding.{bounding_drop, bounding_read}
@@ -23,18 +24,14 @@ use Rattle.rules.specs.Decoding.{decode, known}
 use Rattle.rules.specs.Call.{answer, decoded, performed}
 use Rattle.rules.specs.Run.{Step, result}
 use Rattle.rules.specs.WhyRefused.{Test, WhyRefused, asked, causes_of, failing, is_among, lowest, lowest_with, not_allowed, one_fails, read_falls_short, tests, tests_of}
-use Rattle.rules.specs.declared.Answer.{Answer}
-use Rattle.rules.specs.declared.Answer.TheVariants.{Done, InvalidArgument, InvalidCredentials, NotPermitted, UnreadableAttribute}
+use Rattle.rules.specs.declared.Refusal.TheVariants.{InvalidArgument, InvalidCredentials, NotPermitted, UnreadableAttribute}
 use Rattle.rules.specs.declared.Call.{Call}
 use Rattle.rules.specs.declared.Call.TheVariants.{Execve, Capset, BoundingDrop, BoundingRead, AmbientRaise, AmbientLower, AmbientIsSet, AmbientClearAll, SetSecurebits, GetSecurebits, SetKeepCaps, GetKeepCaps, SetNoNewPrivs, GetNoNewPrivs, Setuid, Setreuid, Setresuid, Setfsuid, Setgid, Setregid, Setresgid, Setfsgid}
 use Rattle.rules.specs.declared.Cause.{Cause}
 use Rattle.rules.specs.declared.Cause.TheVariants.{CapabilityNotEffective, InheritableBeyondPermitted, InheritableBeyondBounding, PermittedGrows, EffectiveBeyondPermitted, NotInPermittedAndInheritable, AmbientRaiseForbidden, LockUndone, LockedFlagChanged, IdNotAllowed, LaunchFallsShort}
-use Rattle.rules.specs.declared.Decoded.{Decoded}
-use Rattle.rules.specs.declared.Decoded.TheVariants.{Known, Unknown}
-use Rattle.rules.specs.declared.NewIds.{NewIds}
-use Rattle.rules.specs.declared.NewIds.TheVariants.{Allowed, NotAllowed}
 use Rattle.rules.proofs.Conditions.{cond_cases}
 use Rattle.rules.proofs.EachCause.{each_occurs}
+use Rattle.credentials.specs.declared.Ids.{Ids}
 
 -- ---- the lowest of ordered tests
 
@@ -70,13 +67,13 @@ record Told (own : List ℕ) (ts : List Test) (r : Answer) : Type 0 where
 
 -- a test before others whose numbers are no lower
 first : {own : List ℕ} {ts : List Test} {r : Answer} (why : Cause) (t : Bool) → is_below (cause_number why) ts ≡ true
-    → is_among (cause_number why) own ≡ true → Told own ts r → Told own (record { number = cause_number why; fails = t } ∷ ts) (cond t (NotPermitted why) r)
+    → is_among (cause_number why) own ≡ true → Told own ts r → Told own (record { number = cause_number why; fails = t } ∷ ts) (cond t (Err (NotPermitted why)) r)
 unfolding failing one_fails
 first why true h m k = record { refused = refl; lowest_number = sym (stays_lowest (cause_number why) _ h); among = λ e. m }
 first why false h m k = record { refused = k.refused; lowest_number = k.lowest_number; among = k.among }
 
 -- a call that has passed its tests, or has none
-passed : {own : List ℕ} {v : ℕ} {d : Credentials} → Told own [] (Done v d)
+passed : {own : List ℕ} {v : ℕ} {d : Credentials} → Told own [] (done v d)
 unfolding failing one_fails
 passed = record { refused = refl; lowest_number = refl; among = λ e. absurd (true≢false (sym e)) }
 
@@ -108,33 +105,33 @@ number_of (Setresgid r e s) = 21
 number_of (Setfsgid id) = 22
 
 -- an ID call's one test
-abbrev on_ids : NewIds → List Test
+abbrev on_ids : Option Ids → List Test
 on_ids n = record { number = 10; fails = not_allowed n } ∷ []
 
 module _ (c : Credentials) (s : List ℕ) where
-  user_ids_told : (n : NewIds) → Told (10 ∷ []) (on_ids n) (user_ids_changed c n)
+  user_ids_told : (n : Option Ids) → Told (10 ∷ []) (on_ids n) (user_ids_changed c n)
   unfolding is_below is_among
-  user_ids_told (Allowed new) = first IdNotAllowed false refl refl passed
-  user_ids_told NotAllowed = first {r = Done 0 c} IdNotAllowed true refl refl passed
+  user_ids_told (Some new) = first IdNotAllowed false refl refl passed
+  user_ids_told None = first {r = done 0 c} IdNotAllowed true refl refl passed
 
-  group_ids_told : (n : NewIds) → Told (10 ∷ []) (on_ids n) (group_ids_changed c n)
+  group_ids_told : (n : Option Ids) → Told (10 ∷ []) (on_ids n) (group_ids_changed c n)
   unfolding is_below is_among
-  group_ids_told (Allowed new) = first IdNotAllowed false refl refl passed
-  group_ids_told NotAllowed = first {r = Done 0 c} IdNotAllowed true refl refl passed
+  group_ids_told (Some new) = first IdNotAllowed false refl refl passed
+  group_ids_told None = first {r = done 0 c} IdNotAllowed true refl refl passed
 
-  filesystem_user_id_told : (n : NewIds) → Told [] [] (filesystem_user_id_changed c n)
-  filesystem_user_id_told (Allowed new) = passed
-  filesystem_user_id_told NotAllowed = passed
+  filesystem_user_id_told : (n : Option Ids) → Told [] [] (filesystem_user_id_changed c n)
+  filesystem_user_id_told (Some new) = passed
+  filesystem_user_id_told None = passed
 
-  filesystem_group_id_told : (n : NewIds) → Told [] [] (filesystem_group_id_changed c n)
-  filesystem_group_id_told (Allowed new) = passed
-  filesystem_group_id_told NotAllowed = passed
+  filesystem_group_id_told : (n : Option Ids) → Told [] [] (filesystem_group_id_changed c n)
+  filesystem_group_id_told (Some new) = passed
+  filesystem_group_id_told None = passed
 
-  launch_told : (owner flags group : ℕ) (r : Reading)
+  launch_told : (owner flags group : ℕ) (r : Result FileCapabilities ReadError)
       → Told (11 ∷ []) (record { number = 11; fails = read_falls_short c.sets r } ∷ []) (launch_of c owner flags group r)
   unfolding failing one_fails is_below is_among
-  launch_told owner flags group (File f) = first LaunchFallsShort _ refl refl passed
-  launch_told owner flags group Unreadable = record { refused = refl; lowest_number = refl; among = λ e. absurd (true≢false (sym e)) }
+  launch_told owner flags group (Ok f) = first LaunchFallsShort _ refl refl passed
+  launch_told owner flags group (Err e) = record { refused = refl; lowest_number = refl; among = λ e. absurd (true≢false (sym e)) }
 
   told : (k : Call) → Told (causes_of (number_of k)) (tests c s k) (performed c s k)
   unfolding causes_of is_below is_among launch capset bounding_drop bounding_read ambient_raise ambient_lower ambient_is_set ambient_clear_all set_securebits get_securebits set_keep_caps get_keep_caps set_no_new_privs get_no_new_privs setuid setreuid setresuid setfsuid setgid setregid setresgid setfsgid
@@ -166,12 +163,12 @@ module _ (c : Credentials) (s : List ℕ) where
 -- ---- the call that a number makes has that number
 
 module _ (number : ℕ) where
-  abbrev Numbered : Decoded → Type 0
-  Numbered (Known k) = number_of k ≡ number
-  Numbered Unknown = Unit {0}
+  abbrev Numbered : Option Call → Type 0
+  Numbered (Some k) = number_of k ≡ number
+  Numbered None = Unit {0}
 
   -- one number's call, and the others after it
-  or_else : (n : ℕ) (right : Bool) (k : Call) (d : Decoded) → number_of k ≡ n → Numbered d → Numbered (cond (eqb number n) (known right k) d)
+  or_else : (n : ℕ) (right : Bool) (k : Call) (d : Option Call) → number_of k ≡ n → Numbered d → Numbered (cond (eqb number n) (known right k) d)
   unfolding known
   or_else n right k d h g =
       cond_cases Numbered (eqb number n) _ _
@@ -207,11 +204,11 @@ module _ (number : ℕ) where
 
   -- ---- any credentials, operands and attribute
 
-  answer_told : (c : Credentials) (s : List ℕ) (t : Bool) (d : Decoded) → Numbered d
-      → Told (causes_of number) (cond t (tests_of c s d) []) (cond t (decoded c s d) InvalidCredentials)
+  answer_told : (c : Credentials) (s : List ℕ) (t : Bool) (d : Option Call) → Numbered d
+      → Told (causes_of number) (cond t (tests_of c s d) []) (cond t (decoded c s d) (Err InvalidCredentials))
   unfolding failing one_fails
-  answer_told c s true (Known k) h = subst (λ (n : ℕ). Told (causes_of n) (tests c s k) (performed c s k)) h (told c s k)
-  answer_told c s true Unknown h = record { refused = refl; lowest_number = refl; among = λ e. absurd (true≢false (sym e)) }
+  answer_told c s true (Some k) h = subst (λ (n : ℕ). Told (causes_of n) (tests c s k) (performed c s k)) h (told c s k)
+  answer_told c s true None h = record { refused = refl; lowest_number = refl; among = λ e. absurd (true≢false (sym e)) }
   answer_told c s false d h = record { refused = refl; lowest_number = refl; among = λ e. absurd (true≢false (sym e)) }
 
 step_told : (c : Credentials) (x : Step) → Told (causes_of x.number) (asked c x) (answer c x.number x.a x.b x.c x.attribute)
@@ -222,11 +219,11 @@ step_told c x =
 
 -- a refusal by the rules alone has a cause
 no_other : (r : Answer) → eqb (code r) 1 ≡ false → cause r ≡ 0
-no_other (Done v d) e = refl
-no_other (NotPermitted why) e = absurd (true≢false e)
-no_other InvalidArgument e = refl
-no_other UnreadableAttribute e = refl
-no_other InvalidCredentials e = refl
+no_other (Ok d) e = refl
+no_other (Err (NotPermitted why)) e = absurd (true≢false e)
+no_other (Err InvalidArgument) e = refl
+no_other (Err UnreadableAttribute) e = refl
+no_other (Err InvalidCredentials) e = refl
 
 pub why_refused : WhyRefused
 unfolding result

@@ -1,5 +1,5 @@
 -- A call as a whole ("What comes back"): for any credentials, number, operands and attribute bytes, the answer. Assumes nothing.
-use Rattle.std.specs.Prelude.{ℕ, cond, List, length}
+use Rattle.std.specs.Prelude.{ℕ, cond, List, length, Option, Some, None, Err}
 use Rattle.credentials.specs.Validity.{valid}
 use Rattle.credentials.specs.declared.Credentials.{Credentials}
 use Rattle.rules.specs.Launching.{launch}
@@ -10,12 +10,10 @@ use Rattle.rules.specs.Securebits.{set_securebits, get_securebits}
 use Rattle.rules.specs.ThreadFlags.{set_keep_caps, get_keep_caps, set_no_new_privs, get_no_new_privs}
 use Rattle.rules.specs.Ids.{setuid, setreuid, setresuid, setfsuid, setgid, setregid, setresgid, setfsgid}
 use Rattle.rules.specs.Decoding.{decode}
-use Rattle.rules.specs.declared.Answer.{Answer}
-use Rattle.rules.specs.declared.Answer.TheVariants.{InvalidArgument, InvalidCredentials}
+use Rattle.rules.specs.Answers.{Answer}
+use Rattle.rules.specs.declared.Refusal.TheVariants.{InvalidArgument, InvalidCredentials}
 use Rattle.rules.specs.declared.Call.{Call}
 use Rattle.rules.specs.declared.Call.TheVariants.{Execve, Capset, BoundingDrop, BoundingRead, AmbientRaise, AmbientLower, AmbientIsSet, AmbientClearAll, SetSecurebits, GetSecurebits, SetKeepCaps, GetKeepCaps, SetNoNewPrivs, GetNoNewPrivs, Setuid, Setreuid, Setresuid, Setfsuid, Setgid, Setregid, Setresgid, Setfsgid}
-use Rattle.rules.specs.declared.Decoded.{Decoded}
-use Rattle.rules.specs.declared.Decoded.TheVariants.{Known, Unknown}
 
 -- 60 and 1: what a call that is known does, by its own rules
 abbrev pub performed : Credentials → List ℕ → Call → Answer
@@ -43,10 +41,10 @@ performed start attribute (Setresgid r e s) = setresgid start r e s
 performed start attribute (Setfsgid id) = setfsgid start id
 
 -- 22 before them: number, operands and attribute make no call
-abbrev pub decoded : Credentials → List ℕ → Decoded → Answer
-decoded start attribute (Known call) = performed start attribute call
-decoded start attribute Unknown = InvalidArgument
+abbrev pub decoded : Credentials → List ℕ → Option Call → Answer
+decoded start attribute (Some call) = performed start attribute call
+decoded start attribute None = Err InvalidArgument
 
 -- 72 before all: the credentials given are not valid
 unfoldable pub answer : Credentials → ℕ → ℕ → ℕ → ℕ → List ℕ → Answer
-answer start number a b c attribute = cond (valid start) (decoded start attribute (decode number a b c (length attribute))) InvalidCredentials
+answer start number a b c attribute = cond (valid start) (decoded start attribute (decode number a b c (length attribute))) (Err InvalidCredentials)

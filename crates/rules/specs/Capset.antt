@@ -1,12 +1,12 @@
 -- "The other rules", capset(2), call 2: the four tests in their order, then the sets. Assumes nothing.
-use Rattle.std.specs.Prelude.{ℕ, Bool, cond, ◌&&◌}
+use Rattle.std.specs.Prelude.{ℕ, Bool, cond, ◌&&◌, Err}
 use Rattle.capabilities.specs.Sets.{union, inter, lacks, outside}
 use Rattle.capabilities.specs.Header.{CAP_SETPCAP}
 use Rattle.credentials.specs.declared.Sets.{Sets}
 use Rattle.credentials.specs.declared.Credentials.{Credentials}
 use Rattle.rules.specs.Fields.{with_sets}
-use Rattle.rules.specs.declared.Answer.{Answer}
-use Rattle.rules.specs.declared.Answer.TheVariants.{Done, NotPermitted}
+use Rattle.rules.specs.Answers.{Answer, done}
+use Rattle.rules.specs.declared.Refusal.TheVariants.{NotPermitted}
 use Rattle.rules.specs.declared.Cause.TheVariants.{InheritableBeyondPermitted, InheritableBeyondBounding, PermittedGrows, EffectiveBeyondPermitted}
 
 -- first test: without SETPCAP, the new I goes beyond I and P together
@@ -32,8 +32,8 @@ capset_sets s p i e = record { permitted = p; inheritable = i; effective = e; bo
 -- call 2
 unfoldable pub capset : Credentials → ℕ → ℕ → ℕ → Answer
 capset c p i e =
-    cond (beyond_permitted c.sets i) (NotPermitted InheritableBeyondPermitted)
-    (cond (beyond_bounding c.sets i) (NotPermitted InheritableBeyondBounding)
-    (cond (permitted_grows c.sets p) (NotPermitted PermittedGrows)
-    (cond (effective_exceeds p e) (NotPermitted EffectiveBeyondPermitted)
-    (Done 0 (with_sets c (capset_sets c.sets p i e))))))
+    cond (beyond_permitted c.sets i) (Err (NotPermitted InheritableBeyondPermitted))
+    (cond (beyond_bounding c.sets i) (Err (NotPermitted InheritableBeyondBounding))
+    (cond (permitted_grows c.sets p) (Err (NotPermitted PermittedGrows))
+    (cond (effective_exceeds p e) (Err (NotPermitted EffectiveBeyondPermitted))
+    (done 0 (with_sets c (capset_sets c.sets p i e))))))

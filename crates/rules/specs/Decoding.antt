@@ -1,13 +1,11 @@
 -- "The eighteen calls", the four of "Group IDs on the sheet", and refusal 22 of "What comes back": which numbers, operands and attributes make a call.
 -- Assumes nothing.
-use Rattle.std.specs.Prelude.{ℕ, Bool, cond, ◌&&◌, eqb, leb}
+use Rattle.std.specs.Prelude.{ℕ, Bool, cond, ◌&&◌, eqb, leb, Option, Some, None}
 use Rattle.capabilities.specs.Sets.{full, within}
 use Rattle.credentials.specs.Validity.{id_in_range, securebits_in_range}
 use Rattle.rules.specs.Ids.{NO_ID}
 use Rattle.rules.specs.declared.Call.{Call}
 use Rattle.rules.specs.declared.Call.TheVariants.{Execve, Capset, BoundingDrop, BoundingRead, AmbientRaise, AmbientLower, AmbientIsSet, AmbientClearAll, SetSecurebits, GetSecurebits, SetKeepCaps, GetKeepCaps, SetNoNewPrivs, GetNoNewPrivs, Setuid, Setreuid, Setresuid, Setfsuid, Setgid, Setregid, Setresgid, Setfsgid}
-use Rattle.rules.specs.declared.Decoded.{Decoded}
-use Rattle.rules.specs.declared.Decoded.TheVariants.{Known, Unknown}
 
 -- a call that uses a, b and c has no attribute
 abbrev pub uses_three : ℕ → Bool
@@ -42,11 +40,11 @@ abbrev pub id_or_none : ℕ → Bool
 id_or_none id = leb id NO_ID
 
 -- a call, if its operands are right
-unfoldable pub known : Bool → Call → Decoded
-known right call = cond right (Known call) Unknown
+unfoldable pub known : Bool → Call → Option Call
+known right call = cond right (Some call) None
 
 -- a number, the operands and the attribute's length as a call, or as none; in call 1 operand c is the file's group, which is in range as its owner is
-unfoldable pub decode : ℕ → ℕ → ℕ → ℕ → ℕ → Decoded
+unfoldable pub decode : ℕ → ℕ → ℕ → ℕ → ℕ → Option Call
 decode number a b c size =
     cond (eqb number 1) (known (id_in_range a && flags_in_range b && id_in_range c) (Execve a b c))
     (cond (eqb number 2) (known (uses_three size && set_in_range a && set_in_range b && set_in_range c) (Capset a b c))
@@ -70,4 +68,4 @@ decode number a b c size =
     (cond (eqb number 20) (known (uses_two c size && id_or_none a && id_or_none b) (Setregid a b))
     (cond (eqb number 21) (known (uses_three size && id_or_none a && id_or_none b && id_or_none c) (Setresgid a b c))
     (cond (eqb number 22) (known (uses_one b c size && id_or_none a) (Setfsgid a))
-    Unknown)))))))))))))))))))))
+    None)))))))))))))))))))))

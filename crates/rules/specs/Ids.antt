@@ -1,7 +1,7 @@
 -- "The other rules", the ID calls 15 to 18: setuid(2), setreuid(2), setresuid(2), setfsuid(2); and "Group IDs on the sheet", by the same rules 19 to
 -- 22: setgid(2), setregid(2), setresgid(2), setfsgid(2). What an ID call allows and gives is a matter of four IDs and of whether it may set any; what
 -- follows for the sets is of user IDs alone. Assumes nothing.
-use Rattle.std.specs.Prelude.{ℕ, Bool, cond, not, ◌&&◌, ◌||◌, eqb}
+use Rattle.std.specs.Prelude.{ℕ, Bool, cond, not, ◌&&◌, ◌||◌, eqb, Option, Some, None, Err}
 use Rattle.capabilities.specs.Sets.{has, union, inter, minus}
 use Rattle.capabilities.specs.Header.{CAP_SETGID, CAP_SETUID}
 use Rattle.credentials.specs.Securebits.{SECBIT_NO_SETUID_FIXUP, SECBIT_KEEP_CAPS}
@@ -9,11 +9,9 @@ use Rattle.credentials.specs.declared.Ids.{Ids}
 use Rattle.credentials.specs.declared.Sets.{Sets}
 use Rattle.credentials.specs.declared.Credentials.{Credentials}
 use Rattle.rules.specs.Fields.{is_set, with_ambient, with_effective, with_filesystem, with_gids, with_permitted, with_sets, with_uids}
-use Rattle.rules.specs.declared.Answer.{Answer}
-use Rattle.rules.specs.declared.Answer.TheVariants.{Done, NotPermitted}
+use Rattle.rules.specs.Answers.{Answer, done}
+use Rattle.rules.specs.declared.Refusal.TheVariants.{NotPermitted}
 use Rattle.rules.specs.declared.Cause.TheVariants.{IdNotAllowed}
-use Rattle.rules.specs.declared.NewIds.{NewIds}
-use Rattle.rules.specs.declared.NewIds.TheVariants.{Allowed, NotAllowed}
 
 -- ---- "The eighteen calls": an operand that gives an ID, and one that gives none
 
@@ -43,8 +41,8 @@ unfoldable pub setuid_ids : Bool → Ids → ℕ → Ids
 setuid_ids any u id = record { real = cond any id u.real; effective = id; saved = cond any id u.saved; filesystem = id }
 
 -- setuid on four IDs, user or group: the new ones, or not allowed
-unfoldable pub setuid_on : Bool → Ids → ℕ → NewIds
-setuid_on any u id = cond (setuid_allowed any u id) (Allowed (setuid_ids any u id)) NotAllowed
+unfoldable pub setuid_on : Bool → Ids → ℕ → Option Ids
+setuid_on any u id = cond (setuid_allowed any u id) (Some (setuid_ids any u id)) None
 
 -- setreuid, where it may not set any: real goes to real or effective, and effective to one of the three
 unfoldable pub setreuid_allowed : Bool → Ids → Ids → Bool
@@ -70,8 +68,8 @@ setreuid_ids u r e =
     }
 
 -- setreuid on four IDs
-unfoldable pub setreuid_on : Bool → Ids → ℕ → ℕ → NewIds
-setreuid_on any u r e = cond (setreuid_allowed any u (setreuid_ids u r e)) (Allowed (setreuid_ids u r e)) NotAllowed
+unfoldable pub setreuid_on : Bool → Ids → ℕ → ℕ → Option Ids
+setreuid_on any u r e = cond (setreuid_allowed any u (setreuid_ids u r e)) (Some (setreuid_ids u r e)) None
 
 -- setresuid, where it may not set any: each goes to one of the three
 unfoldable pub setresuid_allowed : Bool → Ids → Ids → Bool
@@ -88,16 +86,16 @@ setresuid_ids u r e s =
     }
 
 -- setresuid on four IDs
-unfoldable pub setresuid_on : Bool → Ids → ℕ → ℕ → ℕ → NewIds
-setresuid_on any u r e s = cond (setresuid_allowed any u (setresuid_ids u r e s)) (Allowed (setresuid_ids u r e s)) NotAllowed
+unfoldable pub setresuid_on : Bool → Ids → ℕ → ℕ → ℕ → Option Ids
+setresuid_on any u r e s = cond (setresuid_allowed any u (setresuid_ids u r e s)) (Some (setresuid_ids u r e s)) None
 
 -- setfsuid: changes to any of the four, or where it may set any to any that is given
 unfoldable pub setfsuid_changes : Bool → Ids → ℕ → Bool
 setfsuid_changes any u id = is_given id && (any || one_of_three u id || eqb id u.filesystem)
 
 -- setfsuid on four IDs
-unfoldable pub setfsuid_on : Bool → Ids → ℕ → NewIds
-setfsuid_on any u id = cond (setfsuid_changes any u id) (Allowed (with_filesystem u id)) NotAllowed
+unfoldable pub setfsuid_on : Bool → Ids → ℕ → Option Ids
+setfsuid_on any u id = cond (setfsuid_changes any u id) (Some (with_filesystem u id)) None
 
 -- ---- after an accepted call on user IDs, unless NO_SETUID_FIXUP
 
@@ -150,9 +148,9 @@ abbrev pub may_set_any_user_id : Credentials → Bool
 may_set_any_user_id c = has c.sets.effective CAP_SETUID
 
 -- calls 15 to 17: the new user IDs, and the sets by rules 1 to 3; or refused
-abbrev pub user_ids_changed : Credentials → NewIds → Answer
-user_ids_changed c (Allowed new) = Done 0 (with_sets (with_uids c new) (sets_after c.uids new c.securebits c.sets))
-user_ids_changed c NotAllowed = NotPermitted IdNotAllowed
+abbrev pub user_ids_changed : Credentials → Option Ids → Answer
+user_ids_changed c (Some new) = done 0 (with_sets (with_uids c new) (sets_after c.uids new c.securebits c.sets))
+user_ids_changed c None = Err (NotPermitted IdNotAllowed)
 
 -- call 15
 unfoldable pub setuid : Credentials → ℕ → Answer
@@ -167,10 +165,10 @@ unfoldable pub setresuid : Credentials → ℕ → ℕ → ℕ → Answer
 setresuid c r e s = user_ids_changed c (setresuid_on (may_set_any_user_id c) c.uids r e s)
 
 -- call 18: the sets by rule 4; never refused, and the value is the old filesystem ID
-abbrev pub filesystem_user_id_changed : Credentials → NewIds → Answer
-filesystem_user_id_changed c (Allowed new) =
-    Done c.uids.filesystem (with_sets (with_uids c new) (sets_after_filesystem c.uids new c.securebits c.sets))
-filesystem_user_id_changed c NotAllowed = Done c.uids.filesystem c
+abbrev pub filesystem_user_id_changed : Credentials → Option Ids → Answer
+filesystem_user_id_changed c (Some new) =
+    done c.uids.filesystem (with_sets (with_uids c new) (sets_after_filesystem c.uids new c.securebits c.sets))
+filesystem_user_id_changed c None = done c.uids.filesystem c
 
 unfoldable pub setfsuid : Credentials → ℕ → Answer
 setfsuid c id = filesystem_user_id_changed c (setfsuid_on (may_set_any_user_id c) c.uids id)
@@ -182,9 +180,9 @@ abbrev pub may_set_any_group_id : Credentials → Bool
 may_set_any_group_id c = has c.sets.effective CAP_SETGID
 
 -- calls 19 to 21: the new group IDs, or refused
-abbrev pub group_ids_changed : Credentials → NewIds → Answer
-group_ids_changed c (Allowed new) = Done 0 (with_gids c new)
-group_ids_changed c NotAllowed = NotPermitted IdNotAllowed
+abbrev pub group_ids_changed : Credentials → Option Ids → Answer
+group_ids_changed c (Some new) = done 0 (with_gids c new)
+group_ids_changed c None = Err (NotPermitted IdNotAllowed)
 
 -- call 19
 unfoldable pub setgid : Credentials → ℕ → Answer
@@ -199,9 +197,9 @@ unfoldable pub setresgid : Credentials → ℕ → ℕ → ℕ → Answer
 setresgid c r e s = group_ids_changed c (setresuid_on (may_set_any_group_id c) c.gids r e s)
 
 -- call 22: never refused, and the value is the old filesystem ID
-abbrev pub filesystem_group_id_changed : Credentials → NewIds → Answer
-filesystem_group_id_changed c (Allowed new) = Done c.gids.filesystem (with_gids c new)
-filesystem_group_id_changed c NotAllowed = Done c.gids.filesystem c
+abbrev pub filesystem_group_id_changed : Credentials → Option Ids → Answer
+filesystem_group_id_changed c (Some new) = done c.gids.filesystem (with_gids c new)
+filesystem_group_id_changed c None = done c.gids.filesystem c
 
 unfoldable pub setfsgid : Credentials → ℕ → Answer
 setfsgid c id = filesystem_group_id_changed c (setfsuid_on (may_set_any_group_id c) c.gids id)

@@ -1,17 +1,16 @@
 -- "Launching", call 1: execve(2) of a file with an owner, flags, a group and an attribute. Assumes nothing.
-use Rattle.std.specs.Prelude.{ℕ, Bool, cond, not, ◌&&◌, ◌||◌, List, eqb}
+use Rattle.std.specs.Prelude.{ℕ, Bool, cond, not, ◌&&◌, ◌||◌, Result, Ok, Err, List, eqb}
 use Rattle.capabilities.specs.Sets.{full, union, inter, minus, outside}
 use Rattle.attribute.specs.Reader.{none_attached, reading}
 use Rattle.attribute.specs.declared.FileCapabilities.{FileCapabilities}
-use Rattle.attribute.specs.declared.Reading.{Reading}
-use Rattle.attribute.specs.declared.Reading.TheVariants.{File, Unreadable}
+use Rattle.attribute.specs.declared.ReadError.{ReadError}
 use Rattle.credentials.specs.Securebits.{SECBIT_NOROOT, SECBIT_KEEP_CAPS}
 use Rattle.credentials.specs.declared.Ids.{Ids}
 use Rattle.credentials.specs.declared.Sets.{Sets}
 use Rattle.credentials.specs.declared.Credentials.{Credentials}
 use Rattle.rules.specs.Fields.{is_set, with_gids, with_uids, with_sets, with_securebits}
-use Rattle.rules.specs.declared.Answer.{Answer}
-use Rattle.rules.specs.declared.Answer.TheVariants.{Done, NotPermitted, UnreadableAttribute}
+use Rattle.rules.specs.Answers.{Answer, done}
+use Rattle.rules.specs.declared.Refusal.TheVariants.{NotPermitted, UnreadableAttribute}
 use Rattle.rules.specs.declared.Cause.TheVariants.{LaunchFallsShort}
 
 -- call 1's flags: the file's mode bits, and how it is mounted, run and booted
@@ -39,8 +38,8 @@ unfoldable pub ignores_attribute : Bool → ℕ → Bool
 ignores_attribute nnp flags = ignores_set_id nnp flags || is_set flags NO_FILE_CAPS
 
 -- a: an attribute that is ignored is not looked at, as if there were none (house rule)
-unfoldable pub file_read : Bool → ℕ → List ℕ → Reading
-file_read nnp flags attribute = cond (ignores_attribute nnp flags) (File none_attached) (reading attribute)
+unfoldable pub file_read : Bool → ℕ → List ℕ → Result FileCapabilities ReadError
+file_read nnp flags attribute = cond (ignores_attribute nnp flags) (Ok none_attached) (reading attribute)
 
 -- b: a set-ID bit, by its value, is in force where it is set and not ignored, also where it then changes nothing
 unfoldable pub in_force : Bool → ℕ → ℕ → Bool
@@ -149,9 +148,9 @@ launched c owner flags group f =
     with_securebits (with_sets (with_gids (with_uids c u) g) (launched_sets c.sets (counted c.securebits u f) a)) (launched_securebits c.securebits)
 
 -- the launch of a file that was read: 60 where it could not be, then 1 by f
-abbrev pub launch_of : Credentials → ℕ → ℕ → ℕ → Reading → Answer
-launch_of c owner flags group (File f) = cond (falls_short c.sets f) (NotPermitted LaunchFallsShort) (Done 0 (launched c owner flags group f))
-launch_of c owner flags group Unreadable = UnreadableAttribute
+abbrev pub launch_of : Credentials → ℕ → ℕ → ℕ → Result FileCapabilities ReadError → Answer
+launch_of c owner flags group (Ok f) = cond (falls_short c.sets f) (Err (NotPermitted LaunchFallsShort)) (done 0 (launched c owner flags group f))
+launch_of c owner flags group (Err e) = Err UnreadableAttribute
 
 -- call 1
 unfoldable pub launch : Credentials → ℕ → ℕ → ℕ → List ℕ → Answer

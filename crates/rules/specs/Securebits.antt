@@ -1,12 +1,12 @@
 -- "The other rules", securebits, calls 9 and 10 (prctl(2): PR_SET_SECUREBITS, PR_GET_SECUREBITS). Assumes nothing.
-use Rattle.std.specs.Prelude.{ℕ, ◌+◌, ◌/◌, Bool, cond, not, eqb}
+use Rattle.std.specs.Prelude.{ℕ, ◌+◌, ◌/◌, Bool, cond, not, eqb, Err}
 use Rattle.capabilities.specs.Sets.{inter, lacks, outside}
 use Rattle.capabilities.specs.Header.{CAP_SETPCAP}
 use Rattle.credentials.specs.Securebits.{SECBIT_NOROOT, SECBIT_NO_SETUID_FIXUP, SECBIT_KEEP_CAPS, SECBIT_NO_CAP_AMBIENT_RAISE, lock_of}
 use Rattle.credentials.specs.declared.Credentials.{Credentials}
 use Rattle.rules.specs.Fields.{with_securebits}
-use Rattle.rules.specs.declared.Answer.{Answer}
-use Rattle.rules.specs.declared.Answer.TheVariants.{Done, NotPermitted}
+use Rattle.rules.specs.Answers.{Answer, done}
+use Rattle.rules.specs.declared.Refusal.TheVariants.{NotPermitted}
 use Rattle.rules.specs.declared.Cause.TheVariants.{CapabilityNotEffective, LockUndone, LockedFlagChanged}
 
 -- all four flags, and their locks
@@ -34,11 +34,11 @@ changes_locked old new = not (eqb (inter old (locked_flags old)) (inter new (loc
 -- call 9, set: needs SETPCAP, every set lock kept and each locked flag unchanged
 unfoldable pub set_securebits : Credentials → ℕ → Answer
 set_securebits c new =
-    cond (lacks c.sets.effective CAP_SETPCAP) (NotPermitted CapabilityNotEffective)
-    (cond (undoes_lock c.securebits new) (NotPermitted LockUndone)
-    (cond (changes_locked c.securebits new) (NotPermitted LockedFlagChanged)
-    (Done 0 (with_securebits c new))))
+    cond (lacks c.sets.effective CAP_SETPCAP) (Err (NotPermitted CapabilityNotEffective))
+    (cond (undoes_lock c.securebits new) (Err (NotPermitted LockUndone))
+    (cond (changes_locked c.securebits new) (Err (NotPermitted LockedFlagChanged))
+    (done 0 (with_securebits c new))))
 
 -- call 10, get: all the bits
 unfoldable pub get_securebits : Credentials → Answer
-get_securebits c = Done c.securebits c
+get_securebits c = done c.securebits c

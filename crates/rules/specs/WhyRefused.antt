@@ -1,11 +1,11 @@
 -- The cause of a refusal by the rules ("Why it was refused"): the tests of each call with their numbers, and one statement, WhyRefused, at the end.
 -- Proved in proofs/WhyRefused.antt. Assumes nothing.
-use Rattle.std.specs.Prelude.{ℕ, ◌≡◌, Bool, true, false, cond, ◌||◌, List, [], ◌∷◌, eqb, ltb, length}
+use Rattle.std.specs.Prelude.{ℕ, ◌≡◌, Bool, true, false, cond, ◌||◌, List, [], ◌∷◌, eqb, ltb, length, Option, Some, None, Result, Ok, Err}
 use Rattle.capabilities.specs.Sets.{lacks}
 use Rattle.capabilities.specs.Header.{CAP_SETPCAP}
 use Rattle.attribute.specs.Words.{Bytes}
-use Rattle.attribute.specs.declared.Reading.{Reading}
-use Rattle.attribute.specs.declared.Reading.TheVariants.{File, Unreadable}
+use Rattle.attribute.specs.declared.FileCapabilities.{FileCapabilities}
+use Rattle.attribute.specs.declared.ReadError.{ReadError}
 use Rattle.credentials.specs.Validity.{valid}
 use Rattle.credentials.specs.declared.Sets.{Sets}
 use Rattle.credentials.specs.declared.Credentials.{Credentials}
@@ -19,10 +19,7 @@ use Rattle.rules.specs.Decoding.{decode}
 use Rattle.rules.specs.Run.{Step, result}
 use Rattle.rules.specs.declared.Call.{Call}
 use Rattle.rules.specs.declared.Call.TheVariants.{Execve, Capset, BoundingDrop, BoundingRead, AmbientRaise, AmbientLower, AmbientIsSet, AmbientClearAll, SetSecurebits, GetSecurebits, SetKeepCaps, GetKeepCaps, SetNoNewPrivs, GetNoNewPrivs, Setuid, Setreuid, Setresuid, Setfsuid, Setgid, Setregid, Setresgid, Setfsgid}
-use Rattle.rules.specs.declared.Decoded.{Decoded}
-use Rattle.rules.specs.declared.Decoded.TheVariants.{Known, Unknown}
-use Rattle.rules.specs.declared.NewIds.{NewIds}
-use Rattle.rules.specs.declared.NewIds.TheVariants.{Allowed, NotAllowed}
+use Rattle.credentials.specs.declared.Ids.{Ids}
 
 -- ---- the tests
 
@@ -39,14 +36,14 @@ abbrev no_setpcap : Credentials → Bool
 no_setpcap c = lacks c.sets.effective CAP_SETPCAP
 
 -- fails where an ID call may not make the IDs so
-abbrev pub not_allowed : NewIds → Bool
-not_allowed (Allowed new) = false
-not_allowed NotAllowed = true
+abbrev pub not_allowed : Option Ids → Bool
+not_allowed (Some new) = false
+not_allowed None = true
 
 -- fails where a launch falls short of the file's permitted set; a file that cannot be read is refused before that, with 60
-abbrev pub read_falls_short : Sets → Reading → Bool
-read_falls_short s (File f) = falls_short s f
-read_falls_short s Unreadable = false
+abbrev pub read_falls_short : Sets → Result FileCapabilities ReadError → Bool
+read_falls_short s (Ok f) = falls_short s f
+read_falls_short s (Err e) = false
 
 -- the tests of each call, with the numbers of their causes: 1 to 11, as the request has them
 abbrev pub tests : Credentials → List ℕ → Call → List Test
@@ -75,9 +72,9 @@ tests c attribute (Setresgid r e s) = test 10 (not_allowed (setresuid_on (may_se
 tests c attribute (Setfsgid id) = []
 
 -- what makes no call is refused before any test, with 22
-abbrev pub tests_of : Credentials → List ℕ → Decoded → List Test
-tests_of c attribute (Known call) = tests c attribute call
-tests_of c attribute Unknown = []
+abbrev pub tests_of : Credentials → List ℕ → Option Call → List Test
+tests_of c attribute (Some call) = tests c attribute call
+tests_of c attribute None = []
 
 -- the tests that a step comes to: none for credentials that are not valid, which are refused before all, with 72
 unfoldable pub asked : Credentials → Step → List Test

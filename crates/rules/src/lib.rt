@@ -1,47 +1,57 @@
 // The rules of the twenty-two calls: the types of a call and of its answer here, the definitions in specs/.
 //
-// There are no functions: the crate `calls` has the code that meets these rules. The crate assumes nothing.
+// The one code here gives the paper's numbers of refusals and causes: the crate `calls` has the code that meets the rules. The crate assumes nothing.
 #![tactic(auto)]
 
-use credentials::{Credentials, Ids};
+mod numbers;
 
-// What a call answers: done, with its value and the credentials after it, or refused: by the rules, with a cause (1), because number, operands and
-// attribute make no call (22), because the attribute cannot be read (60), or because the credentials given are not valid (72). A refusal leaves
-// them as they were. specs/Answers.antt gives the number, value, cause and state of each.
+use credentials::Credentials;
+
+// What a call answers: that it is done, or why it is refused.
+pub type Answer = Result<Done, Refusal>;
+
+// A call that is done: its value, and the credentials after it.
 #[derive(Clone, Copy)]
-pub enum Answer {
-    Done { value: u64, after: Credentials },
+pub struct Done {
+    pub value: u64,
+    pub after: Credentials,
+}
+
+// Why a call is refused: by the rules, with a cause (1), because number, operands and attribute make no call (22), because the attribute cannot be read
+// (60), or because the credentials given are not valid (72). A refusal leaves them as they were.
+#[derive(Clone, Copy, Debug, PartialEq, Eq)]
+pub enum Refusal {
     NotPermitted(Cause),
     InvalidArgument,
     UnreadableAttribute,
     InvalidCredentials,
 }
 
-// Why the rules refuse a call, in the order of the numbers 1 to 11 that specs/Answers.antt gives.
-#[derive(Clone, Copy)]
+// Why the rules refuse a call, by the numbers 1 to 11 that specs/Answers.antt gives.
+#[derive(Clone, Copy, Debug, PartialEq, Eq)]
 pub enum Cause {
     // A capability that the call needs is not effective.
-    CapabilityNotEffective,
+    CapabilityNotEffective = 1,
     // capset, without SETPCAP: the new inheritable set goes beyond the inheritable and the permitted one together.
-    InheritableBeyondPermitted,
+    InheritableBeyondPermitted = 2,
     // capset: the new inheritable set goes beyond the inheritable and the bounding one together.
-    InheritableBeyondBounding,
+    InheritableBeyondBounding = 3,
     // capset: the new permitted set goes beyond the permitted one.
-    PermittedGrows,
+    PermittedGrows = 4,
     // capset: the new effective set goes beyond the new permitted one.
-    EffectiveBeyondPermitted,
+    EffectiveBeyondPermitted = 5,
     // Ambient raise: the capability is not in both the permitted and the inheritable set.
-    NotInPermittedAndInheritable,
+    NotInPermittedAndInheritable = 6,
     // Ambient raise: NO_CAP_AMBIENT_RAISE is set.
-    AmbientRaiseForbidden,
+    AmbientRaiseForbidden = 7,
     // A lock that is set is missing from the new securebits.
-    LockUndone,
+    LockUndone = 8,
     // A flag of the securebits that is locked would be changed; by call 11 also where it would stay as it is.
-    LockedFlagChanged,
+    LockedFlagChanged = 9,
     // An ID is not among those that the thread may take.
-    IdNotAllowed,
+    IdNotAllowed = 10,
     // A launch does not give the whole of the file's permitted set, and the file's effective bit is on.
-    LaunchFallsShort,
+    LaunchFallsShort = 11,
 }
 
 // A call by its name, with the operands that it uses, in the order of the numbers 1 to 22.
@@ -113,18 +123,4 @@ pub enum Call {
     Setfsgid {
         id: u64,
     },
-}
-
-// What an ID call makes of four IDs, user or group: the new ones, or that it may not make them so.
-#[derive(Clone, Copy)]
-pub enum NewIds {
-    Allowed(Ids),
-    NotAllowed,
-}
-
-// A number, operands and an attribute as a call, or that they make none.
-#[derive(Clone, Copy)]
-pub enum Decoded {
-    Known(Call),
-    Unknown,
 }

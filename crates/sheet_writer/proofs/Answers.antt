@@ -9,8 +9,9 @@ use borrow.Author.Tests.{le-leb, lt-leb, leb-true}
 use lib.Dec.{leb}
 use lib.ListN.{length}
 use lib.Seq.{sets-eq}
-use Rattle.attribute.specs.Writer.{refused}
-use Rattle.attribute.specs.declared.Written.{Written}
+use Rattle.std.proofs.Common.{Result, Ok, Err}
+use Rattle.format.specs.declared.SheetWriteError.{SheetWriteError}
+use Rattle.format.specs.declared.SheetWriteError.TheVariants.{Invalid, NoRoom}
 use Rattle.credentials.specs.Validity.{valid}
 use Rattle.credentials.specs.declared.Credentials.{Credentials}
 use Rattle.format.specs.Sheet.{sheet_kinds, sheet_values, sheet_text, sheet_answer, sheet_buffer}
@@ -30,24 +31,24 @@ length_by table c = length_lines table sheet_kinds (sheet_values c)
 module _ (table : List ℕ) (c : Credentials) (at : ℕ) (old : List ℕ) where
   pub sheet_written : (buf : List ℕ) (n : ℕ) → true ≡ valid c → n ≡ length (sheet_text c) → at + n ≤ length old
       → buf ≡ (lines_put table sheet_kinds (sheet_values c) old at).buffer
-      → (◌≡◌ {A = Written} (record { code = 0; length = n }) (answer_at c at old)) × (buf ≡ buffer_by table c at old)
+      → (◌≡◌ {A = Result ℕ SheetWriteError} (Ok n) (answer_at c at old)) × (buf ≡ buffer_by table c at old)
   unfolding answer_at buffer_by written sheet_text_by
   sheet_written buf n v e h w =
       let fit : at + length (sheet_text c) ≤ length old = omega (arith, e, h) in
       let fit_by : at + length (sheet_text_by table c) ≤ length old = omega (arith, length_by table c, fit) in
       rw (← v, le-leb (at + length (sheet_text c)) (length old) fit, le-leb (at + length (sheet_text_by table c)) (length old) fit_by) (
-        ap (λ (k : ℕ). record { code = 0; length = k }) e,
+        ap (λ (k : ℕ). Ok k) e,
         w ∙ ap (λ (p : _). p.buffer) (lines_put_lem table sheet_kinds (sheet_values c) old at fit_by),
       )
 
   pub sheet_no_room : true ≡ valid c → length old < at + length (sheet_text c)
-      → (refused 28 ≡ answer_at c at old) × (old ≡ buffer_by table c at old)
+      → (Err NoRoom ≡ answer_at c at old) × (old ≡ buffer_by table c at old)
   unfolding answer_at buffer_by written
   sheet_no_room v h =
       let short : length old < at + length (sheet_text_by table c) = omega (arith, length_by table c, h) in
       rw (← v, lt-leb (at + length (sheet_text c)) (length old) h, lt-leb (at + length (sheet_text_by table c)) (length old) short) (refl, refl)
 
-  pub sheet_invalid : false ≡ valid c → (refused 72 ≡ answer_at c at old) × (old ≡ buffer_by table c at old)
+  pub sheet_invalid : false ≡ valid c → (Err Invalid ≡ answer_at c at old) × (old ≡ buffer_by table c at old)
   unfolding answer_at buffer_by
   sheet_invalid v = rw (← v) (refl, refl)
 

@@ -1,17 +1,16 @@
 -- The sheet at a position of a buffer: what its writer answers and leaves. Assumes nothing.
-use Rattle.std.specs.Prelude.{ℕ, cond, List, length}
-use Rattle.attribute.specs.Writer.{refused}
-use Rattle.attribute.specs.declared.Written.{Written}
+use Rattle.std.specs.Prelude.{ℕ, cond, List, length, Result, Ok, Err}
 use Rattle.credentials.specs.Validity.{valid}
 use Rattle.credentials.specs.declared.Credentials.{Credentials}
 use Rattle.format.specs.Sheet.{sheet_kinds, sheet_values, sheet_text}
+use Rattle.format.specs.declared.SheetWriteError.{SheetWriteError}
+use Rattle.format.specs.declared.SheetWriteError.TheVariants.{Invalid, NoRoom}
 use Rattle.hex_tables.specs.Tables.{lines_text_by}
 use Rattle.line_writer.specs.Positions.{fits, written}
 
--- 72 for credentials that are not valid, then 28 for a sheet that does not fit from the position on, else 0 and the sheet's length
-unfoldable pub answer_at : Credentials → ℕ → List ℕ → Written
-answer_at c at buffer =
-    cond (valid c) (cond (fits buffer at (sheet_text c)) (record { code = 0; length = length (sheet_text c) }) (refused 28)) (refused 72)
+-- credentials that are not valid, then a sheet that does not fit from the position on; else the sheet's length
+unfoldable pub answer_at : Credentials → ℕ → List ℕ → Result ℕ SheetWriteError
+answer_at c at buffer = cond (valid c) (cond (fits buffer at (sheet_text c)) (Ok (length (sheet_text c))) (Err NoRoom)) (Err Invalid)
 
 -- the buffer afterwards: the sheet in place of the bytes from the position on; where it is refused, as it was
 unfoldable pub buffer_at : Credentials → ℕ → List ℕ → List ℕ

@@ -10,11 +10,16 @@ use Rattle.threads.specs.declared.Decision.{Decision}
 use Rattle.threads.specs.declared.Decision.TheVariants.{Answered, Forks, Exits}
 use Rattle.threads.specs.declared.SlotResult.{SlotResult}
 use Rattle.threads.specs.declared.Threads.{Threads}
+use Rattle.slots.specs.declared.decision.Asked.{Asked}
 use Rattle.slots.specs.declared.turn.Turn.{Turn}
 
 -- a step by its numbers and bytes
 abbrev pub step_of : ℕ → ℕ → ℕ → ℕ → List ℕ → Step
 step_of number a b c attribute = record { number = number; a = a; b = b; c = c; attribute = attribute }
+
+-- and as the code hands it on
+abbrev pub asked_step : Asked → Step
+asked_step x = step_of x.number x.a x.b x.c x.attribute.now
 
 -- and in a slot
 abbrev pub slot_step : ℕ → ℕ → ℕ → ℕ → ℕ → List ℕ → SlotStep

@@ -1,11 +1,13 @@
 // What the credentials of the named slot decide.
+#![tactic(auto, unfolding(rules::specs::Decoding::uses_one, threads::specs::Step::decided, threads::specs::Step::unless_refused))]
+
 ghost use Rattle.std.specs.Prelude.{◌≡◌, length};
 ghost use Rattle.rules.specs.Decoding.{uses_none};
 ghost use Rattle.threads.specs.Step.{unless_refused, decided};
-ghost use Rattle.slots.specs.Turn.{step_of};
+ghost use Rattle.slots.specs.Turn.{asked_step};
 
 use credentials::Credentials;
-use rules::Answer;
+use rules::Refusal;
 use threads::Decision;
 
 // The numbers of the two operations that are no calls of one thread.
@@ -13,50 +15,52 @@ const FORK: u64 = 30;
 
 const EXIT: u64 = 31;
 
-// Whether no operand and no attribute is given.
-fn uses_none(a: u64, b: u64, c: u64, size: usize) -> bool
-    ensures { result ≡ uses_none a b c size }
-{
-    (a == 0) & ((b == 0) & ((c == 0) & (size == 0)))
+// What a step asks in the slot that it names.
+#[derive(Clone, Copy)]
+pub(crate) struct Asked<'a> {
+    pub(crate) number: u64,
+    pub(crate) a: u64,
+    pub(crate) b: u64,
+    pub(crate) c: u64,
+    pub(crate) attribute: &'a [u8],
 }
 
-// A fork or an exit, unless the credentials or the operands refuse it.
-fn unless_refused(
-    start: Credentials,
-    number: u64,
-    a: u64,
-    b: u64,
-    c: u64,
-    attribute: &[u8],
-    done: Decision,
-) -> Decision
-    ensures { result ≡ unless_refused start (step_of number a b c attribute.now) done }
-{
-    if credentials::is_valid(start) {
-        if uses_none(a, b, c, attribute.len()) {
-            return done;
+impl Asked<'_> {
+    // Whether no operand and no attribute is given. `calls` has the same inside its own table of calls and hands it out to nobody.
+    fn uses_none(&self) -> bool
+        ensures { result ≡ uses_none self.now.a self.now.b self.now.c (length self.now.attribute.now) }
+    {
+        (self.a == 0) & ((self.b == 0) & ((self.c == 0) & (self.attribute.len() == 0)))
+    }
+
+    // A fork or an exit, unless the credentials or the operands refuse it.
+    fn unless_refused(&self, start: Credentials, done: Decision) -> Decision
+        ensures { result ≡ unless_refused start (asked_step self.now) done }
+    {
+        if !credentials::is_valid(start) {
+            return Decision::Answered(Err(Refusal::InvalidCredentials));
         }
-        return Decision::Answered(Answer::InvalidArgument);
+        if !self.uses_none() {
+            return Decision::Answered(Err(Refusal::InvalidArgument));
+        }
+        done
     }
-    Decision::Answered(Answer::InvalidCredentials)
-}
 
-// What a step is to do in a slot in use with these credentials: fork, exit, or what its call answers.
-pub(crate) fn decide(
-    start: Credentials,
-    number: u64,
-    a: u64,
-    b: u64,
-    c: u64,
-    attribute: &[u8],
-) -> Decision
-    ensures { result ≡ decided start (step_of number a b c attribute.now) }
-{
-    if number == FORK {
-        return unless_refused(start, number, a, b, c, attribute, Decision::Forks);
+    // What is to be done in a slot in use with these credentials: fork, exit, or what the call answers.
+    pub(crate) fn decide(&self, start: Credentials) -> Decision
+        ensures { result ≡ decided start (asked_step self.now) }
+    {
+        match self.number {
+            FORK => self.unless_refused(start, Decision::Forks),
+            EXIT => self.unless_refused(start, Decision::Exits),
+            number => Decision::Answered(calls::perform(
+                start,
+                number,
+                self.a,
+                self.b,
+                self.c,
+                self.attribute,
+            )),
+        }
     }
-    if number == EXIT {
-        return unless_refused(start, number, a, b, c, attribute, Decision::Exits);
-    }
-    Decision::Answered(calls::perform(start, number, a, b, c, attribute))
 }

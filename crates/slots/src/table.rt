@@ -1,5 +1,5 @@
 // The table at the start, and the lowest free slot of a table.
-ghost use Rattle.std.specs.Prelude.{◌≡◌, length};
+ghost use Rattle.std.specs.Prelude.{◌≡◌, cond, length, ltb, Some, None};
 ghost use Rattle.threads.specs.Table.{lowest_free, fresh};
 
 use crate::SLOTS;
@@ -36,27 +36,19 @@ pub fn fresh(sheet: Credentials) -> Threads
     ensures { result ≡ fresh sheet }
 {
     let mut table = Threads {
-        credentials: [EMPTY; 96],
-        used: [false; 96],
+        credentials: [EMPTY; SLOTS],
+        used: [false; SLOTS],
     };
     table.credentials[0] = sheet;
     table.used[0] = true;
     table
 }
 
-// The lowest free slot by the use marks, and 96 where none is free.
-pub(crate) fn lowest_free(used: &[bool; 96]) -> usize
+// The lowest free slot by the use marks, if one is free. Behind a reference the checker does not know an array's length, so three contracts say it
+// (docs/DECISIONS.md, 117).
+pub(crate) fn lowest_free(used: &[bool; SLOTS]) -> Option<usize>
     requires { length used.now ≡ 96 }
-    ensures { result ≡ lowest_free used.now }
+    ensures { result ≡ cond (ltb (lowest_free used.now) 96) (Some (lowest_free used.now)) None }
 {
-    let mut i: usize = 0;
-    while i < SLOTS {
-        let mark = used[i];
-        if mark {
-            i += 1;
-        } else {
-            return i;
-        }
-    }
-    i
+    used.iter().position(|mark| !*mark)
 }

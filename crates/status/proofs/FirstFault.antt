@@ -6,9 +6,10 @@ use Prim.Native.Nat.{ℕ, zero, suc, ◌+◌, ◌-◌, ◌^◌, ◌<◌, ◌≤�
 use native.Mathlib.Nat.{pow-suc}
 use native.Mathlib.Omega.{arith}
 use lib.ListN.{length, take, drop}
+use Rattle.std.specs.Prelude.{Err}
 use Rattle.format.specs.Line.{Form, decimal, hex, Read, read, fault_at, below, next, mapped, starts_with}
 use Rattle.format.proofs.Fitting.{Fits}
-use Rattle.status.specs.declared.Reading.TheVariants.{Malformed}
+use Rattle.status.specs.declared.ReadError.TheVariants.{Malformed}
 use Rattle.status.specs.Lines.{lines_of, Entry, entries, begins_one, wanted, wanted_of, entry_text}
 use Rattle.status.specs.Reading.{read_entry, read_due, read_dues, status_of, shown, read_status}
 use Rattle.status.specs.FirstFault.{CanBegin, FirstFault}
@@ -230,11 +231,11 @@ in_range (e ∷ es) (l ∷ ls) n h = by_test (wanted l) h (λ m g. in_range (e �
 
 -- ---- the statement
 
-malformed_told : (text : List ℕ) (n : ℕ) → read_status text ≡ Malformed n → read_dues entries (lines_of text) ≡ fault_at n
+malformed_told : (text : List ℕ) (n : ℕ) → read_status text ≡ Err (Malformed n) → read_dues entries (lines_of text) ≡ fault_at n
 unfolding read_status
 malformed_told text n h = by_reading (read_dues entries (lines_of text)) h
   where
-    by_reading : (r : Read (List ℕ)) → shown r ≡ Malformed n → r ≡ fault_at n
+    by_reading : (r : Read (List ℕ)) → shown r ≡ Err (Malformed n) → r ≡ fault_at n
     by_reading (read vs rest) e = let z : ◌≡◌ {A = ℕ} 0 1 = cc in absurd (omega arith)
     by_reading (fault_at m) e = let p : m ≡ n = cc in ap fault_at p
 

@@ -6,6 +6,7 @@ use Prim.Native.Nat.{ℕ, ◌+◌, ◌*◌, ◌≤◌}
 use native.Mathlib.Omega.{arith}
 use lib.Dec.{eqb}
 use lib.ListN.{length, length-append}
+use Rattle.std.specs.Prelude.{Result, Ok, Err}
 use Rattle.credentials.specs.Validity.{valid}
 use Rattle.credentials.specs.declared.Credentials.{Credentials}
 use Rattle.rules.specs.Fields.{number}
@@ -15,8 +16,8 @@ use Rattle.format.proofs.Fitting.{FitAll}
 use Rattle.format.proofs.Lengths.{length_hex, length_one, at_most, most_keyed, length_keyed, length_line}
 use Rattle.format.proofs.ReadWritten.{keyed_written}
 use Rattle.status.specs.declared.Status.{Status}
-use Rattle.status.specs.declared.Reading.{Reading}
-use Rattle.status.specs.declared.Reading.TheVariants.{Shows, Malformed}
+use Rattle.status.specs.declared.ReadError.{ReadError}
+use Rattle.status.specs.declared.ReadError.TheVariants.{Malformed}
 use Rattle.status.specs.Lines.{lines_of, entries, begins_one, wanted}
 use Rattle.status.specs.Reading.{up_to, since, value_of, read_values, read_dues, read_status}
 use Rattle.status.specs.RoundTrip.{Writable}
@@ -110,13 +111,13 @@ text =
     bytes "Uid:\t4294967295\t4294967295\t4294967295\t4294967295\nCapInh:\t0000000000000001\nCapPrm:\t0000000000000001\n"
     ++ bytes "CapEff:\t0000000000000001\nCapBnd:\t0000000000000001\nCapAmb:\t0000000000000001\nNoNewPrivs:\t1\n"
 
-text_shows : read_status text ≡ Shows (showing 4294967295)
+text_shows : read_status text ≡ Ok (showing 4294967295)
 unfolding read_hex read_digits read_decimal after_key lines_of entries starts_with begins_one wanted up_to since value_of read_values read_dues read_status
 text_shows = refl
 
 text_compared : compared text (holding 4294967294) ≡ report (list_text (shown_of (holding 4294967294)) (showing 4294967295))
 unfolding valid laid compared
-text_compared = ap (λ (r : Reading). beside r (holding 4294967294)) text_shows
+text_compared = ap (λ (r : Result Status ReadError). beside r (holding 4294967294)) text_shows
 
 all_differ : (p f : ℕ) → eqb p f ≡ false
     → length (list_text (shown_of (holding p)) (showing f)) ≡ 292 + 4 * (length (decimal_text p) + length (decimal_text f))
@@ -149,7 +150,7 @@ lists : (text : List ℕ) (c : Credentials) (t : List ℕ) → compared text c �
 unfolding laid compared
 lists text c t e = by_reading (read_status text) refl e
   where
-    by_validity : (s : Status) (v : Bool) → read_status text ≡ Shows s → valid c ≡ v
+    by_validity : (s : Status) (v : Bool) → read_status text ≡ Ok s → valid c ≡ v
         → cond v (report (list_text (shown_of c) s)) invalid ≡ report t
         → length t ≤ longest_list
     by_validity s true r h g =
@@ -157,9 +158,9 @@ lists text c t e = by_reading (read_status text) refl e
         rw (← p) (length_list (shown_of c) s (shown_writable c h) (round_trip.read_written text s r).1)
     by_validity s false r h g = let z : ◌≡◌ {A = ℕ} 0 1 = cc in absurd (omega arith)
 
-    by_reading : (r : Reading) → read_status text ≡ r → beside r c ≡ report t → length t ≤ longest_list
-    by_reading (Shows s) h g = by_validity s (valid c) h refl g
-    by_reading (Malformed line) h g = let z : ◌≡◌ {A = ℕ} 0 1 = cc in absurd (omega arith)
+    by_reading : (r : Result Status ReadError) → read_status text ≡ r → beside r c ≡ report t → length t ≤ longest_list
+    by_reading (Ok s) h g = by_validity s (valid c) h refl g
+    by_reading (Err (Malformed line)) h g = let z : ◌≡◌ {A = ℕ} 0 1 = cc in absurd (omega arith)
 
 pub longest : Longest
 longest = record { lists = lists; a_longest_list = (text, holding 4294967294, _, text_compared, is_longest) }

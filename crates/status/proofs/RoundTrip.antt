@@ -6,6 +6,7 @@ use Prim.Native.Nat.{ℕ, suc}
 use native.Mathlib.Omega.{arith}
 use lib.Dec.{eqb}
 use lib.ListN.{length, get_or, take, drop}
+use Rattle.std.specs.Prelude.{Ok}
 use Rattle.credentials.specs.Validity.{valid}
 use Rattle.credentials.specs.declared.Credentials.{Credentials}
 use Rattle.rules.specs.Fields.{number}
@@ -13,7 +14,6 @@ use Rattle.format.specs.Line.{Form, value_text, Read, read, fault_at, newline, s
 use Rattle.format.specs.Report.{report}
 use Rattle.format.proofs.Sheets.{flag_read, flag_written, flag_small, valid_writable}
 use Rattle.status.specs.declared.Status.{Status}
-use Rattle.status.specs.declared.Reading.TheVariants.{Shows}
 use Rattle.status.specs.Lines.{lines_of, text_of, Entry, entries, begins_one, wanted, wanted_of, values_text, entry_text, status_lines, status_text}
 use Rattle.status.specs.Reading.{read_dues, status_of, shown, read_status}
 use Rattle.status.specs.Comparing.{shown_of, last_line, laid, compared}
@@ -75,17 +75,17 @@ written_told ls s w e = record { lines = e ∙ sym (lines_told s); fit = values_
 
 -- ---- the text
 
-written_read : (text : List ℕ) (s : Status) → Writable s → wanted_of (lines_of text) ≡ status_lines s → read_status text ≡ Shows s
+written_read : (text : List ℕ) (s : Status) → Writable s → wanted_of (lines_of text) ≡ status_lines s → read_status text ≡ Ok s
 unfolding read_status
 written_read text s w e =
     let t = written_told (wanted_of (lines_of text)) s w e in
-    ap shown (dues_read entries (lines_of text) (line_values s) t.fit t.lines) ∙ ap Shows (values_told s)
+    ap shown (dues_read entries (lines_of text) (line_values s) t.fit t.lines) ∙ ap Ok (values_told s)
 
-shown_told : (r : Read (List ℕ)) (s : Status) → shown r ≡ Shows s → (vs rest : List ℕ) × (r ≡ read vs rest) × (status_of vs ≡ s)
+shown_told : (r : Read (List ℕ)) (s : Status) → shown r ≡ Ok s → (vs rest : List ℕ) × (r ≡ read vs rest) × (status_of vs ≡ s)
 shown_told (read vs rest) s e = (vs, rest, refl, cc)
 shown_told (fault_at line) s e = let z : ◌≡◌ {A = ℕ} 0 1 = cc in absurd (omega arith)
 
-read_written : (text : List ℕ) (s : Status) → read_status text ≡ Shows s → (wanted_of (lines_of text) ≡ status_lines s) × Writable s
+read_written : (text : List ℕ) (s : Status) → read_status text ≡ Ok s → (wanted_of (lines_of text) ≡ status_lines s) × Writable s
 unfolding read_status
 read_written text s e =
     let r = shown_told (read_dues entries (lines_of text)) s e in

@@ -1,5 +1,5 @@
 -- A status text laid beside predicted credentials ("The roaster's own word"): the list of what differs, the answer, the buffer. Assumes nothing.
-use Rattle.std.specs.Prelude.{ℕ, List, [], ◌∷◌, ◌++◌, cond, eqb, leb, length}
+use Rattle.std.specs.Prelude.{ℕ, List, [], ◌∷◌, ◌++◌, cond, eqb, leb, length, Result, Ok, Err}
 use Rattle.credentials.specs.Validity.{valid}
 use Rattle.credentials.specs.declared.Credentials.{Credentials}
 use Rattle.rules.specs.Fields.{number}
@@ -7,9 +7,10 @@ use Rattle.format.specs.Line.{bytes, Kind, kind, value_text}
 use Rattle.format.specs.Sheet.{id_values, set_values}
 use Rattle.format.specs.Report.{Verdict, report, malformed, invalid}
 use Rattle.status.specs.declared.Status.{Status}
-use Rattle.status.specs.declared.Reading.{Reading}
-use Rattle.status.specs.declared.Reading.TheVariants.{Shows, Malformed}
-use Rattle.status.specs.declared.Comparison.{Comparison}
+use Rattle.status.specs.declared.ReadError.{ReadError}
+use Rattle.status.specs.declared.ReadError.TheVariants as Unread
+use Rattle.status.specs.declared.CompareError.{CompareError}
+use Rattle.status.specs.declared.CompareError.TheVariants.{Malformed, Invalid, NoRoom}
 use Rattle.status.specs.Lines.{id_form, set_form, flag_form}
 use Rattle.status.specs.Reading.{read_status}
 
@@ -76,17 +77,32 @@ unfoldable pub laid : Status → Credentials → Verdict
 laid found c = cond (valid c) (report (list_text (shown_of c) found)) invalid
 
 -- 70 comes before it
-abbrev pub beside : Reading → Credentials → Verdict
-beside (Shows found) c = laid found c
-beside (Malformed line) c = malformed line
+abbrev pub beside : Result Status ReadError → Credentials → Verdict
+beside (Ok found) c = laid found c
+beside (Err (Unread.Malformed line)) c = malformed line
 
 -- what a status text and predicted credentials come to, before the buffer is looked at
 unfoldable pub compared : List ℕ → Credentials → Verdict
 compared text c = beside (read_status text) c
 
--- the code, the line and the list's length, with a buffer of some length: 28 comes last; the buffer afterwards is `buffer` of format/specs/Report.antt
-abbrev pub comparison : Verdict → ℕ → Comparison
-comparison (report t) room =
-    cond (leb (length t) room) (record { code = 0; line = 0; length = length t }) (record { code = 28; line = 0; length = 0 })
-comparison (malformed line) room = record { code = 70; line = line; length = 0 }
-comparison invalid room = record { code = 72; line = 0; length = 0 }
+-- the list's length, or why there is none, with a buffer of some length: 28 comes last; the buffer afterwards is `buffer` of format/specs/Report.antt
+abbrev pub comparison : Verdict → ℕ → Result ℕ CompareError
+comparison (report t) room = cond (leb (length t) room) (Ok (length t)) (Err NoRoom)
+comparison (malformed line) room = Err (Malformed line)
+comparison invalid room = Err Invalid
+
+-- the number of a refusal
+abbrev pub code : CompareError → ℕ
+code (Malformed line) = 70
+code Invalid = 72
+code NoRoom = 28
+
+-- and the line of its fault, 0 but for 70
+abbrev pub fault_line : CompareError → ℕ
+fault_line (Malformed line) = line
+fault_line Invalid = 0
+fault_line NoRoom = 0
+
+-- a text that is not read is refused at its line
+abbrev pub unread : ReadError → CompareError
+unread (Unread.Malformed line) = Malformed line

@@ -1,9 +1,9 @@
 -- What a status text is read as, for any bytes ("The roaster's own word"): what it shows, or the line of its first fault. Assumes nothing.
-use Rattle.std.specs.Prelude.{ℕ, List, [], ◌∷◌, ◌++◌, cond, eqb, get_or}
+use Rattle.std.specs.Prelude.{ℕ, List, [], ◌∷◌, ◌++◌, cond, eqb, get_or, Result, Ok, Err}
 use Rattle.format.specs.Line.{bytes, Form, Read, read, fault_at, fault, below, next, mapped, read_value, after_key}
 use Rattle.status.specs.declared.Status.{Status}
-use Rattle.status.specs.declared.Reading.{Reading}
-use Rattle.status.specs.declared.Reading.TheVariants.{Shows, Malformed}
+use Rattle.status.specs.declared.ReadError.{ReadError}
+use Rattle.status.specs.declared.ReadError.TheVariants.{Malformed}
 use Rattle.status.specs.Lines.{lines_of, Entry, entries, wanted}
 
 -- ---- one line
@@ -68,10 +68,10 @@ status_of vs =
       nnp = eqb (get_or vs 9 0) 1;
     }
 
-abbrev pub shown : Read (List ℕ) → Reading
-shown (read vs rest) = Shows (status_of vs)
-shown (fault_at line) = Malformed line
+abbrev pub shown : Read (List ℕ) → Result Status ReadError
+shown (read vs rest) = Ok (status_of vs)
+shown (fault_at line) = Err (Malformed line)
 
 -- the reader's answer
-unfoldable pub read_status : List ℕ → Reading
+unfoldable pub read_status : List ℕ → Result Status ReadError
 read_status t = shown (read_dues entries (lines_of t))

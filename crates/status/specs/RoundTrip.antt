@@ -1,12 +1,11 @@
 -- Written and read, each from the other: the statement, which proofs/RoundTrip.antt proves. Assumes nothing.
-use Rattle.std.specs.Prelude.{ℕ, ◌<◌, ◌^◌, ◌≡◌, true, false, List, [], ◌∷◌, ◌++◌, eqb}
+use Rattle.std.specs.Prelude.{ℕ, ◌<◌, ◌^◌, ◌≡◌, true, false, List, [], ◌∷◌, ◌++◌, eqb, Ok}
 use Rattle.credentials.specs.Validity.{valid}
 use Rattle.credentials.specs.declared.Credentials.{Credentials}
 use Rattle.format.specs.RoundTrip.{WritableIds}
 use Rattle.format.specs.Line.{newline}
 use Rattle.format.specs.Report.{report}
 use Rattle.status.specs.declared.Status.{Status}
-use Rattle.status.specs.declared.Reading.TheVariants.{Shows}
 use Rattle.status.specs.Lines.{lines_of, text_of, wanted_of, status_lines, status_text}
 use Rattle.status.specs.Reading.{read_status}
 use Rattle.status.specs.Comparing.{shown_of, last_line, compared}
@@ -32,11 +31,11 @@ AreLines (l ∷ ls) = Lacks newline l × AreLines ls
 
 pub record RoundTrip : Type 0 where
   -- a text whose wanted lines are those written for something is read as it, whatever other lines stand before, between and after them
-  pub written_read : (text : List ℕ) (s : Status) → Writable s → wanted_of (lines_of text) ≡ status_lines s → read_status text ≡ Shows s
+  pub written_read : (text : List ℕ) (s : Status) → Writable s → wanted_of (lines_of text) ≡ status_lines s → read_status text ≡ Ok s
   -- the written text is one of these
   pub written_wanted : (s : Status) → wanted_of (lines_of (status_text s)) ≡ status_lines s
   -- and the wanted lines of a text that is read are those written for what it is read as
-  pub read_written : (text : List ℕ) (s : Status) → read_status text ≡ Shows s → (wanted_of (lines_of text) ≡ status_lines s) × Writable s
+  pub read_written : (text : List ℕ) (s : Status) → read_status text ≡ Ok s → (wanted_of (lines_of text) ≡ status_lines s) × Writable s
   -- any lines, without newlines in them, are the lines of a text; and so they are where the newline after the last, which is not empty, is missing
   pub any_lines : (ls : List (List ℕ)) → AreLines ls → lines_of (text_of ls) ≡ ls
   pub any_last_line : (ls : List (List ℕ)) (b : ℕ) (l : List ℕ) → AreLines ls → Lacks newline (b ∷ l) → lines_of (text_of ls ++ (b ∷ l)) ≡ ls ++ ((b ∷ l) ∷ [])

@@ -1,13 +1,14 @@
 -- Whole status texts and what they come to, as the request says ("The roaster's own word"): what is read, lines of faults, lists, answers and buffers.
 -- proofs/Computed.antt proves the statement at the end by computing both sides. Assumes nothing.
-use Rattle.std.specs.Prelude.{ℕ, ◌≡◌, true, false, List, [], ◌∷◌, ◌++◌, replicate}
+use Rattle.std.specs.Prelude.{ℕ, ◌≡◌, true, false, List, [], ◌∷◌, ◌++◌, replicate, Ok, Err}
 use Rattle.credentials.specs.declared.Credentials.{Credentials}
 use Rattle.format.specs.Line.{bytes}
 use Rattle.format.specs.Report.{report, malformed, buffer}
 use Rattle.status.specs.declared.Status.{Status}
-use Rattle.status.specs.declared.Reading.TheVariants.{Shows, Malformed}
+use Rattle.status.specs.declared.ReadError.TheVariants.{Malformed}
+use Rattle.status.specs.declared.CompareError.TheVariants as Refused
 use Rattle.status.specs.Reading.{read_status}
-use Rattle.status.specs.Comparing.{compared, comparison}
+use Rattle.status.specs.Comparing.{compared, comparison, code, fault_line}
 
 -- ---- parts of the texts
 
@@ -82,7 +83,7 @@ sevens n = replicate n 7
 
 pub record TextsHold : Type 0 where
   -- other lines are passed over, whatever they hold; the sets come in the file's order, and the last newline may be missing
-  pub shown : read_status captured ≡ Shows found
+  pub shown : read_status captured ≡ Ok found
   -- a line for each key that differs, in sheet order: key, predicted value, found value
   pub all_differ : compared captured (holding 0 other)
       ≡ report
@@ -98,40 +99,44 @@ pub record TextsHold : Type 0 where
       (bytes "suid 0 4294967295\npermitted 0000000000000000 ffffffffffffffff\nbounding 0000000000000000 0000020000000000\n"
       ++ bytes "not compared: securebits, group IDs\n")
   -- no number above 4294967295, no leading zero, no empty value
-  pub above_largest : read_status (bytes "Uid:\t0\t4294967296\t0\t0\n" ++ six) ≡ Malformed 1
-  pub leading_zero : read_status (bytes "Name:\tx\nUid:\t0\t0\t0\t00\n" ++ six) ≡ Malformed 2
-  pub no_digit : read_status (bytes "Uid:\t0\t\t0\t0\n" ++ six) ≡ Malformed 1
+  pub above_largest : read_status (bytes "Uid:\t0\t4294967296\t0\t0\n" ++ six) ≡ Err (Malformed 1)
+  pub leading_zero : read_status (bytes "Name:\tx\nUid:\t0\t0\t0\t00\n" ++ six) ≡ Err (Malformed 2)
+  pub no_digit : read_status (bytes "Uid:\t0\t\t0\t0\n" ++ six) ≡ Err (Malformed 1)
   -- lower-case hex digits, 16 of them; a flag is 0 or 1
-  pub upper_case : read_status (ids ++ bytes "CapInh:\t000000000000000A\n") ≡ Malformed 2
-  pub fifteen_digits : read_status (ids ++ bytes "CapInh:\t000000000000000\n") ≡ Malformed 2
-  pub seventeen_digits : read_status (ids ++ bytes "CapInh:\t00000000000000000\n") ≡ Malformed 2
-  pub flag_of_two : read_status (ids ++ five ++ bytes "NoNewPrivs:\t2\n") ≡ Malformed 7
+  pub upper_case : read_status (ids ++ bytes "CapInh:\t000000000000000A\n") ≡ Err (Malformed 2)
+  pub fifteen_digits : read_status (ids ++ bytes "CapInh:\t000000000000000\n") ≡ Err (Malformed 2)
+  pub seventeen_digits : read_status (ids ++ bytes "CapInh:\t00000000000000000\n") ≡ Err (Malformed 2)
+  pub flag_of_two : read_status (ids ++ five ++ bytes "NoNewPrivs:\t2\n") ≡ Err (Malformed 7)
   -- no CR at the end, no space for a tab
-  pub carriage_return : read_status (bytes "Uid:\t0\t0\t0\t0" ++ (13 ∷ bytes "\n") ++ six) ≡ Malformed 1
-  pub first_space : read_status (bytes "Uid: 0\t0\t0\t0\n" ++ six) ≡ Malformed 1
-  pub later_space : read_status (bytes "Uid:\t0\t0 0\t0\n" ++ six) ≡ Malformed 1
+  pub carriage_return : read_status (bytes "Uid:\t0\t0\t0\t0" ++ (13 ∷ bytes "\n") ++ six) ≡ Err (Malformed 1)
+  pub first_space : read_status (bytes "Uid: 0\t0\t0\t0\n" ++ six) ≡ Err (Malformed 1)
+  pub later_space : read_status (bytes "Uid:\t0\t0 0\t0\n" ++ six) ≡ Err (Malformed 1)
   -- no value missing and none further, not even an empty one
-  pub missing : read_status (bytes "Uid:\t0\t0\t0\n" ++ six) ≡ Malformed 1
-  pub further : read_status (bytes "Uid:\t0\t0\t0\t0\t0\n" ++ six) ≡ Malformed 1
-  pub tab_at_the_end : read_status (bytes "Uid:\t0\t0\t0\t0\t\n" ++ six) ≡ Malformed 1
+  pub missing : read_status (bytes "Uid:\t0\t0\t0\n" ++ six) ≡ Err (Malformed 1)
+  pub further : read_status (bytes "Uid:\t0\t0\t0\t0\t0\n" ++ six) ≡ Err (Malformed 1)
+  pub tab_at_the_end : read_status (bytes "Uid:\t0\t0\t0\t0\t\n" ++ six) ≡ Err (Malformed 1)
   -- a wanted name that comes again, at once or after all seven; one that is due later
-  pub again : read_status (ids ++ ids ++ six) ≡ Malformed 2
-  pub again_after_all : read_status (ids ++ six ++ bytes "x\n" ++ ids) ≡ Malformed 9
-  pub too_early : read_status (ids ++ bytes "x\nCapPrm:\t0000000000000000\n") ≡ Malformed 3
+  pub again : read_status (ids ++ ids ++ six) ≡ Err (Malformed 2)
+  pub again_after_all : read_status (ids ++ six ++ bytes "x\n" ++ ids) ≡ Err (Malformed 9)
+  pub too_early : read_status (ids ++ bytes "x\nCapPrm:\t0000000000000000\n") ≡ Err (Malformed 3)
   -- a line that is due at the end is a fault at the line after the last, and no line begins after the last newline
-  pub empty : read_status [] ≡ Malformed 1
-  pub one_line : read_status (bytes "x") ≡ Malformed 2
-  pub one_line_ended : read_status (bytes "x\n") ≡ Malformed 2
-  pub six_missing : read_status (bytes "x\n\n" ++ ids) ≡ Malformed 4
+  pub empty : read_status [] ≡ Err (Malformed 1)
+  pub one_line : read_status (bytes "x") ≡ Err (Malformed 2)
+  pub one_line_ended : read_status (bytes "x\n") ≡ Err (Malformed 2)
+  pub six_missing : read_status (bytes "x\n\n" ++ ids) ≡ Err (Malformed 4)
   -- the first fault decides, and no line counts twice
-  pub first_fault : read_status (bytes "\nUid\nUid:\nCapInh:\n") ≡ Malformed 3
+  pub first_fault : read_status (bytes "\nUid\nUid:\nCapInh:\n") ≡ Err (Malformed 3)
   -- 70 comes before 72, and 72 before 28
   pub malformed_first : compared (bytes "x\n") (holding 4294967295 found) ≡ malformed 2
-  pub not_valid_first : comparison (compared captured (holding 4294967295 found)) 0 ≡ record { code = 72; line = 0; length = 0 }
+  pub not_valid_first : comparison (compared captured (holding 4294967295 found)) 0 ≡ Err Refused.Invalid
   -- 28 for a buffer that is too short, and else the list's length
-  pub no_room : comparison (compared captured (holding 0 found)) 35 ≡ record { code = 28; line = 0; length = 0 }
-  pub room : comparison (compared captured (holding 0 found)) 36 ≡ record { code = 0; line = 0; length = 36 }
-  pub with_its_line : comparison (compared (bytes "x\n") none) 36 ≡ record { code = 70; line = 2; length = 0 }
+  pub no_room : comparison (compared captured (holding 0 found)) 35 ≡ Err Refused.NoRoom
+  pub room : comparison (compared captured (holding 0 found)) 36 ≡ Ok 36
+  pub with_its_line : comparison (compared (bytes "x\n") none) 36 ≡ Err (Refused.Malformed 2)
+  -- a refusal's number and line
+  pub malformed_told : (line : ℕ) → (code (Refused.Malformed line) ≡ 70) × (fault_line (Refused.Malformed line) ≡ line)
+  pub not_valid_told : (code Refused.Invalid ≡ 72) × (fault_line Refused.Invalid ≡ 0)
+  pub no_room_told : (code Refused.NoRoom ≡ 28) × (fault_line Refused.NoRoom ≡ 0)
   -- bytes past the list stay; where the comparison is refused, all bytes do
   pub list_written : buffer (compared (bytes "Uid:\t0\t0\t0\t12\n" ++ six) none) (sevens 49)
       ≡ bytes "fsuid 0 12\nnot compared: securebits, group IDs\n" ++ (7 ∷ 7 ∷ [])

@@ -7,28 +7,31 @@ use native.Mathlib.Nat.{zero-add}
 use native.Mathlib.Omega.{arith}
 use borrow.Author.Tests.{le-leb, lt-leb}
 use lib.Dec.{eqb}
-use lib.ListN.{length, length-append}
-use lib.Seq.{sets, sets-eq, set-set, length-sets}
+use lib.ListN.{length, take, drop, get_or, length-append, take-append-drop}
+use Rattle.std.proofs.lemmas.List.{take_more}
+use lib.Seq.{take_all, sets, sets-eq, set-set, length-sets}
+use Rattle.std.specs.Prelude.{Result, Ok, Err}
 use Rattle.credentials.specs.Validity.{valid}
-use Rattle.credentials.specs.declared.Ids.{Ids}
-use Rattle.credentials.specs.declared.Sets.{Sets}
 use Rattle.credentials.specs.declared.Credentials.{Credentials}
 use Rattle.rules.specs.Fields.{number}
-use Rattle.format.specs.Line.{bytes, Kind, Form, hex_text, value_text, keyed_text}
-use Rattle.format.specs.Sheet.{id_values, set_values}
-use Rattle.format.specs.Report.{malformed, buffer}
+use Rattle.format.specs.Line.{bytes, Kind, hex_text, value_text, keyed_text}
+use Rattle.format.specs.Report.{buffer}
 use Rattle.format.proofs.Lengths.{length_keyed}
 use Rattle.hex_tables.specs.Tables.{writing_table, hex_text_by}
 use Rattle.hex_tables.proofs.Format.{by_the_tables}
 use Rattle.line_writer.specs.Positions.{written, written_to}
 use Rattle.line_writer.proofs.LineLaws.{sets_append, text_put}
 use Rattle.status.specs.declared.Status.{Status}
-use Rattle.status.specs.declared.Comparison.{Comparison}
-use Rattle.status.specs.declared.Reading.TheVariants.{Shows, Malformed}
+use Rattle.status.specs.declared.ReadError.{ReadError}
+use Rattle.status.specs.declared.ReadError.TheVariants.{Malformed}
+use Rattle.status.specs.declared.CompareError.{CompareError}
+use Rattle.status.specs.declared.CompareError.TheVariants.{Invalid, NoRoom}
 use Rattle.status.specs.Lines.{id_form, set_form}
 use Rattle.status.specs.Reading.{read_status}
-use Rattle.status.specs.Comparing.{id_keys, set_keys, flag_keys, keys, shown_of, difference_text, differences, differing, last_line, list_text, laid, compared, comparison}
+use Rattle.status.specs.Comparing.{id_keys, set_keys, flag_keys, keys, values_of, shown_of, difference_text, differences, differing, last_line, list_text, laid, compared, comparison, unread}
+use Rattle.status_comparison.specs.declared.line.Line.{Line}
 use Rattle.status_comparison.specs.Inside.{line_of, Put}
+use Rattle.status_comparison.specs.Lines.{line_text, lines_text}
 
 -- ---- the list is made of lines
 
@@ -52,69 +55,43 @@ made_of_lines (k ∷ ks) (p ∷ ps) (f ∷ fs) = by_test (eqb p f) (made_of_line
     by_test true e = e
     by_test false e = rw e (simp append_assoc)
 
-grouped : (ks ls : List Kind) (ps qs fs gs : List ℕ) → length ps ≡ length ks → length fs ≡ length ks
-    → lines (ks ++ ls) (ps ++ qs) (fs ++ gs) ≡ lines ks ps fs ++ lines ls qs gs
-unfolding lines
-grouped [] ls [] qs [] gs a b = refl
-grouped [] ls (p ∷ ps) qs fs gs a b = absurd (omega (arith, a))
-grouped [] ls [] qs (f ∷ fs) gs a b = absurd (omega (arith, b))
-grouped (k ∷ ks) ls [] qs fs gs a b = absurd (omega (arith, a))
-grouped (k ∷ ks) ls (p ∷ ps) qs [] gs a b = absurd (omega (arith, b))
-grouped (k ∷ ks) ls (p ∷ ps) qs (f ∷ fs) gs a b = simp (append_assoc, grouped ks ls ps qs fs gs (omega (arith, a)) (omega (arith, b)))
-
--- the lines of the user IDs
-pub ids_lines : (p f : Ids) → differences id_keys (id_values p) (id_values f)
-    ≡ line_of (bytes "ruid ") id_form p.real f.real
-    ++ (line_of (bytes "euid ") id_form p.effective f.effective
-    ++ (line_of (bytes "suid ") id_form p.saved f.saved ++ line_of (bytes "fsuid ") id_form p.filesystem f.filesystem))
-unfolding id_keys lines
-ids_lines p f = made_of_lines id_keys (id_values p) (id_values f) ∙ simp append-nil
-
--- those of the capability sets
-pub sets_lines : (p f : Sets) → differences set_keys (set_values p) (set_values f)
-    ≡ line_of (bytes "permitted ") set_form p.permitted f.permitted
-    ++ (line_of (bytes "inheritable ") set_form p.inheritable f.inheritable
-    ++ (line_of (bytes "effective ") set_form p.effective f.effective
-    ++ (line_of (bytes "bounding ") set_form p.bounding f.bounding ++ line_of (bytes "ambient ") set_form p.ambient f.ambient)))
-unfolding set_keys lines
-sets_lines p f = made_of_lines set_keys (set_values p) (set_values f) ∙ simp append-nil
-
--- and the whole list
-pub list_lines : (c : Credentials) (s : Status) → list_text (shown_of c) s
-    ≡ differences id_keys (id_values c.uids) (id_values s.uids)
-    ++ (differences set_keys (set_values c.sets) (set_values s.sets) ++ (line_of (bytes "nnp ") id_form (number c.nnp) (number s.nnp) ++ last_line))
+-- and so is the list
+pub ten_lines : (c : Credentials) (s : Status) → list_text (shown_of c) s
+    ≡ (line_of (bytes "ruid ") id_form c.uids.real s.uids.real
+    ++ (line_of (bytes "euid ") id_form c.uids.effective s.uids.effective
+    ++ (line_of (bytes "suid ") id_form c.uids.saved s.uids.saved
+    ++ (line_of (bytes "fsuid ") id_form c.uids.filesystem s.uids.filesystem
+    ++ (line_of (bytes "permitted ") set_form c.sets.permitted s.sets.permitted
+    ++ (line_of (bytes "inheritable ") set_form c.sets.inheritable s.sets.inheritable
+    ++ (line_of (bytes "effective ") set_form c.sets.effective s.sets.effective
+    ++ (line_of (bytes "bounding ") set_form c.sets.bounding s.sets.bounding
+    ++ (line_of (bytes "ambient ") set_form c.sets.ambient s.sets.ambient
+    ++ (line_of (bytes "nnp ") id_form (number c.nnp) (number s.nnp) ++ []))))))))))
+    ++ last_line
 unfolding list_text differing keys id_keys set_keys flag_keys lines
-list_lines c s =
-    let ps = number c.nnp ∷ [] in
-    let fs = number s.nnp ∷ [] in
-    simp made_of_lines
-    (rw (grouped id_keys (set_keys ++ flag_keys) (id_values c.uids) (set_values c.sets ++ ps) (id_values s.uids) (set_values s.sets ++ fs) refl refl, grouped set_keys flag_keys (set_values c.sets) ps (set_values s.sets) fs refl refl)
-    (simp (append_assoc, append-nil)))
+ten_lines c s = ap (λ (t : List ℕ). t ++ last_line) (made_of_lines keys (values_of (shown_of c)) (values_of s))
 
--- ---- how long the lines are
+-- a line more
+lines_both : (ks ls : List Line) → lines_text (ks ++ ls) ≡ lines_text ks ++ lines_text ls
+unfolding lines_text
+lines_both [] ls = refl
+lines_both (k ∷ ks) ls = ap (λ (t : List ℕ). line_text k ++ t) (lines_both ks ls) ∙ sym (append_assoc (line_text k) (lines_text ks) (lines_text ls))
 
-pub line_length : (key : List ℕ) (form : Form) (p f : ℕ) → eqb p f ≡ false
-    → length (line_of key form p f) ≡ length key + length (value_text form p) + length (value_text form f) + 2
-line_length key form p f h = rw h (simp length-append (omega arith))
+module _ (ls : List Line) (i : ℕ) where
+  pub lines_more : (l : Line) → i < length ls → l ≡ get_or ls i l → lines_text (take (i + 1) ls) ≡ lines_text (take i ls) ++ line_text l
+  unfolding lines_text
+  lines_more l h e =
+      ap lines_text (take_more ls i l h) ∙ lines_both (take i ls) (get_or ls i l ∷ []) ∙ ap (λ (t : List ℕ). lines_text (take i ls) ++ t) (append-nil (line_text (get_or ls i l)))
+      ∙ ap (λ (k : Line). lines_text (take i ls) ++ line_text k) (sym e)
 
-pub ids_length : (p f : Ids) → length (differences id_keys (id_values p) (id_values f))
-    ≡ length (line_of (bytes "ruid ") id_form p.real f.real)
-    + (length (line_of (bytes "euid ") id_form p.effective f.effective)
-    + (length (line_of (bytes "suid ") id_form p.saved f.saved) + length (line_of (bytes "fsuid ") id_form p.filesystem f.filesystem)))
-ids_length p f = ap length (ids_lines p f) ∙ simp length-append
+  pub all_lines : length ls ≤ i → lines_text (take i ls) ≡ lines_text ls
+  all_lines h = ap lines_text (take_all i ls h)
 
-pub sets_length : (p f : Sets) → length (differences set_keys (set_values p) (set_values f))
-    ≡ length (line_of (bytes "permitted ") set_form p.permitted f.permitted)
-    + (length (line_of (bytes "inheritable ") set_form p.inheritable f.inheritable)
-    + (length (line_of (bytes "effective ") set_form p.effective f.effective)
-    + (length (line_of (bytes "bounding ") set_form p.bounding f.bounding) + length (line_of (bytes "ambient ") set_form p.ambient f.ambient))))
-sets_length p f = ap length (sets_lines p f) ∙ simp length-append
-
-pub list_length : (c : Credentials) (s : Status) → length (list_text (shown_of c) s)
-    ≡ length (differences id_keys (id_values c.uids) (id_values s.uids))
-    + (length (differences set_keys (set_values c.sets) (set_values s.sets)) + (length (line_of (bytes "nnp ") id_form (number c.nnp) (number s.nnp)) + 36))
-unfolding last_line
-list_length c s = ap length (list_lines c s) ∙ simp length-append
+  -- a part of the lines is no longer than all
+  pub part_fits : length (lines_text (take i ls)) ≤ length (lines_text ls)
+  part_fits =
+      let e = ap (λ (ks : List Line). length (lines_text ks)) (take-append-drop i ls) in
+      omega (arith, e, ap length (lines_both (take i ls) (drop i ls)), length-append (lines_text (take i ls)) (lines_text (drop i ls)))
 
 -- ---- in a buffer
 
@@ -185,31 +162,32 @@ by_the_table table v e = sym (ap (λ (t : List ℕ). hex_text_by t 16 v) e ∙ b
 -- ---- the answers
 
 module _ (s : Status) (c : Credentials) (old : List ℕ) where
-  pub not_valid : valid c ≡ false → (◌≡◌ {A = Comparison} (record { code = 72; line = 0; length = 0 }) (comparison (laid s c) (length old))) × (old ≡ buffer (laid s c) old)
+  pub not_valid : valid c ≡ false → (◌≡◌ {A = Result ℕ CompareError} (Err Invalid) (comparison (laid s c) (length old))) × (old ≡ buffer (laid s c) old)
   unfolding laid
   not_valid h = rw h (refl, refl)
 
   pub no_room : valid c ≡ true → length old < length (list_text (shown_of c) s)
-      → (◌≡◌ {A = Comparison} (record { code = 28; line = 0; length = 0 }) (comparison (laid s c) (length old))) × (old ≡ buffer (laid s c) old)
+      → (◌≡◌ {A = Result ℕ CompareError} (Err NoRoom) (comparison (laid s c) (length old))) × (old ≡ buffer (laid s c) old)
   unfolding laid
   no_room h l = rw (h, lt-leb (length (list_text (shown_of c) s)) (length old) l) (refl, refl)
 
   pub is_written : (n : ℕ) (new : List ℕ) → valid c ≡ true → n ≡ length (list_text (shown_of c) s) → length (list_text (shown_of c) s) ≤ length old → new ≡ sets old 0 (list_text (shown_of c) s)
-      → (◌≡◌ {A = Comparison} (record { code = 0; line = 0; length = n }) (comparison (laid s c) (length old))) × (new ≡ buffer (laid s c) old)
+      → (◌≡◌ {A = Result ℕ CompareError} (Ok n) (comparison (laid s c) (length old))) × (new ≡ buffer (laid s c) old)
   unfolding laid
   is_written n new h e l w =
       rw (h, le-leb (length (list_text (shown_of c) s)) (length old) l) (
-        ap (λ (k : ℕ). record { code = 0; line = 0; length = k }) e,
+        ap (λ (k : ℕ). Ok k) e,
         w ∙ sets-eq (list_text (shown_of c) s) old 0 (omega arith) ∙ rw (zero-add (length (list_text (shown_of c) s))),
       )
 
 -- ---- by what the text is read as
 
 module _ (text : List ℕ) (c : Credentials) where
-  pub compared_fault : (line : ℕ) → read_status text ≡ Malformed line → compared text c ≡ malformed line
+  pub not_read : (e : ReadError) (old : List ℕ) → Err e ≡ read_status text
+      → (◌≡◌ {A = Result ℕ CompareError} (Err (unread e)) (comparison (compared text c) (length old))) × (old ≡ buffer (compared text c) old)
   unfolding compared
-  compared_fault line h = rw h
+  not_read (Malformed line) old h = rw (← h) (refl, refl)
 
-  pub compared_found : (found : Status) → read_status text ≡ Shows found → compared text c ≡ laid found c
+  pub compared_found : (found : Status) → Ok found ≡ read_status text → laid found c ≡ compared text c
   unfolding compared
-  compared_found found h = rw h
+  compared_found found h = rw (← h)

@@ -101,24 +101,15 @@ unfolding value_of read_decimal
 no_digits m [] h = refl
 no_digits m (b ∷ t) h = absurd (omega arith)
 
-module _ (m : ℕ) (t : List ℕ) (h : 0 < length t) where
-  front : t ≡ get_or t 0 0 ∷ drop 1 t
-  front = drop-cons t 0 0 h
+module _ (m b : ℕ) (t : List ℕ) where
+  pub first_good : hex_digit b < 10 → hex_digit b ≤ m → value_of (decimal m) (b ∷ t) ≡ decimal_left m (hex_digit b) t
+  first_good l g = first_digit m b t ∙ rw ((digit_same b).0 l, lt-ltb _ _ l, le-leb _ _ g)
 
-  pub first_good : hex_digit (get_or t 0 0) < 10 → hex_digit (get_or t 0 0) ≤ m → value_of (decimal m) t ≡ decimal_left m (hex_digit (get_or t 0 0)) (drop 1 t)
-  first_good l g =
-      ap (value_of (decimal m)) front
-      ∙ first_digit m (get_or t 0 0) (drop 1 t)
-      ∙ rw ((digit_same (get_or t 0 0)).0 l, lt-ltb _ _ l, le-leb _ _ g)
+  pub first_none : 10 ≤ hex_digit b → value_of (decimal m) (b ∷ t) ≡ fault
+  first_none l = first_digit m b t ∙ rw ((digit_same b).1 l)
 
-  pub first_none : 10 ≤ hex_digit (get_or t 0 0) → value_of (decimal m) t ≡ fault
-  first_none l = ap (value_of (decimal m)) front ∙ first_digit m (get_or t 0 0) (drop 1 t) ∙ rw ((digit_same (get_or t 0 0)).1 l)
-
-  pub first_above : hex_digit (get_or t 0 0) < 10 → m < hex_digit (get_or t 0 0) → value_of (decimal m) t ≡ fault
-  first_above l g =
-      ap (value_of (decimal m)) front
-      ∙ first_digit m (get_or t 0 0) (drop 1 t)
-      ∙ rw ((digit_same (get_or t 0 0)).0 l, lt-ltb _ _ l, lt-leb _ _ g)
+  pub first_above : hex_digit b < 10 → m < hex_digit b → value_of (decimal m) (b ∷ t) ≡ fault
+  first_above l g = first_digit m b t ∙ rw ((digit_same b).0 l, lt-ltb _ _ l, lt-leb _ _ g)
 
 -- a further byte: a newline cannot be one, and neither can any after a leading zero
 further : (m v b : ℕ) (t : List ℕ)

@@ -5,54 +5,54 @@
 // has a `requires`. The crate assumes nothing.
 #![tactic(auto)]
 
-ghost use Rattle.std.specs.Prelude.{◌≡◌};
+ghost use Rattle.std.specs.Prelude.{◌≡◌, [], ◌∷◌};
+ghost use Rattle.status.specs.Lines.{set_form};
 ghost use Rattle.status.specs.Reading.{read_status};
+ghost use Rattle.status_reader.specs.Inside.{DueAhead, one};
 
 mod lines;
 mod places;
 mod values;
 
 use credentials::Sets;
-use hex_tables::reading_table;
-use places::{Place, read_flag, read_ids, read_set, wanted_line};
-use status::{Reading, Status};
+use lines::{flag_line, ids_line, set_line};
+use places::Place;
+use status::{ReadError, Status};
+use values::Digits;
 
 // What a status text shows, or the line at which it is malformed.
-pub fn read_status(text: &[u8]) -> Reading
+pub fn read_status(text: &[u8]) -> Result<Status, ReadError>
     ensures { result ≡ read_status text.now }
 {
-    let table = reading_table();
-    let start = Place {
-        at: 0,
-        lines: 0,
-        fault: false,
-    };
-    let users = read_ids(text, start, &table);
-    let inheritable = read_set(text, users.place, b"CapInh:", &table);
-    let permitted = read_set(text, inheritable.place, b"CapPrm:", &table);
-    let effective = read_set(text, permitted.place, b"CapEff:", &table);
-    let bounding = read_set(text, effective.place, b"CapBnd:", &table);
-    let ambient = read_set(text, bounding.place, b"CapAmb:", &table);
-    let nnp = read_flag(text, ambient.place, &table);
-    let end = nnp.place;
-    if end.fault {
-        return Reading::Malformed(end.lines);
+    let digits = Digits::new();
+    let mut place = Place::start(text);
+    let uids = place.due(|line| ids_line(line, &digits))?;
+    let inheritable = read_set(&mut place, b"CapInh:", &digits)?;
+    let permitted = read_set(&mut place, b"CapPrm:", &digits)?;
+    let effective = read_set(&mut place, b"CapEff:", &digits)?;
+    let bounding = read_set(&mut place, b"CapBnd:", &digits)?;
+    let ambient = read_set(&mut place, b"CapAmb:", &digits)?;
+    let nnp = place.due(|line| flag_line(line, &digits))?;
+    if place.next_wanted().is_some() {
+        return Err(ReadError::Malformed(place.passed));
     }
-    let further = wanted_line(text, end.at, end.lines);
-    if further.from < text.len() {
-        return Reading::Malformed(further.lines + 1);
-    }
-    let uids = users.ids;
     let sets = Sets {
-        permitted: permitted.value,
-        inheritable: inheritable.value,
-        effective: effective.value,
-        bounding: bounding.value,
-        ambient: ambient.value,
+        permitted,
+        inheritable,
+        effective,
+        bounding,
+        ambient,
     };
-    Reading::Shows(Status {
+    Ok(Status {
         uids,
         sets,
-        nnp: nnp.value == 1,
+        nnp: nnp == 1,
     })
+}
+
+// The set of the line of a name, which is due.
+fn read_set(place: &mut Place<'_>, name: &[u8], digits: &Digits) -> Result<u64, ReadError>
+    ensures { DueAhead one result place.old.rest.now place.old.passed (record { name = name.now; forms = set_form ∷ [] }) place.new.rest.now place.new.passed }
+{
+    place.due(|line| set_line(line, name, digits))
 }

@@ -1,176 +1,122 @@
 // A line, without its newline: whether it is wanted, and the values of each kind of wanted line.
-ghost use Rattle.std.specs.Prelude.{◌≡◌, ◌+◌, ◌≤◌, List, [], ◌∷◌, length, drop};
-ghost use Rattle.format.specs.Line.{Form, starts_with};
-ghost use Rattle.hex_tables.specs.Tables.{reading_table};
-ghost use Rattle.status.specs.Lines.{id_form, ids_entry, flag_entry, set_form, wanted};
-ghost use Rattle.status.specs.Reading.{up_to, read_entry};
-ghost use Rattle.status_reader.specs.Inside.{behind_tab, ids_read, IdWithin, line_read, part_read, PartWithin, wide_read};
+ghost use Rattle.std.specs.Prelude.{◌≡◌, ◌<◌, List, [], ◌∷◌, ◌||◌, eqb, length, position, MatchOption};
+ghost use Rattle.format.specs.Line.{bytes, Form, fault, starts_with};
+ghost use Rattle.status.specs.Lines.{id_form, ids_entry, flag_entry, lines_of, set_form, wanted};
+ghost use Rattle.status.specs.Reading.{up_to, since, read_entry};
+ghost use Rattle.status_reader.specs.Inside.{behind_tab, first_read, ids_read, line_read};
 
-use crate::values::{Value, decimal_value, set_value};
+use crate::values::{Digits, decimal_value, set_value};
 use credentials::Ids;
 
 // The byte before each value.
 const TAB: u8 = b'\t';
+
+// The byte that ends a line.
+const NEWLINE: u8 = b'\n';
 
 // The largest number that can be written for an ID, and for no-new-privs.
 const LARGEST_WRITTEN_ID: u32 = 4294967295;
 
 const LARGEST_FLAG: u32 = 1;
 
-// Four IDs, or that the line is malformed.
-#[derive(Clone, Copy)]
-pub(crate) enum IdsLine {
-    Are(Ids),
-    Fault,
-}
-
-// Where the first value of a line begins, behind its name and a tab, or that it does not.
-#[derive(Clone, Copy)]
-enum Values {
-    From(usize),
-    Missing,
-}
-
-// An ID and where the next value begins, or that they do not stand there.
-#[derive(Clone, Copy)]
-enum Id {
-    Is(u64, usize),
-    Fault,
-}
-
-// The position of the first b from the position at on, or the text's length.
-pub(crate) fn find(text: &[u8], at: usize, b: u8) -> usize
-    requires { at ≤ length text.now }
-    ensures { (result ≡ at + length (up_to b (drop at text.now))) × (result ≤ length text.now) }
+// What stands before the first b and behind it, where there is one.
+fn split_once(text: &[u8], b: u8) -> Option<(&[u8], &[u8])>
+    ensures { MatchOption result (since b text.now ≡ []) (λ p. (up_to b text.now ≡ p.0.now) × (since b text.now ≡ b ∷ p.1.now)) }
 {
-    let n = text.len();
-    let mut i = at;
-    while i < n {
-        if text[i] == b {
-            return i;
-        }
-        i += 1;
-    }
-    i
+    let end = find(text, b)?;
+    Some((&text[..end], &text[end + 1..]))
 }
 
-// Whether a line starts with a name.
-fn starts_with(line: &[u8], name: &[u8]) -> bool
-    ensures { result ≡ starts_with name.now line.now }
+// The position of the first b, if there is one.
+fn find(text: &[u8], b: u8) -> Option<usize>
+    ensures { result ≡ position (λ x. eqb x b) text.now }
 {
-    let n = name.len();
-    if line.len() < n {
-        return false;
+    text.iter().position(|x| *x == b)
+}
+
+// The first line of a text and what stands behind it; an empty text has none.
+pub(crate) fn first_line(text: &[u8]) -> Option<(&[u8], &[u8])>
+    ensures { MatchOption result (lines_of text.now ≡ []) (λ p. (lines_of text.now ≡ p.0.now ∷ lines_of p.1.now) × (length p.1.now < length text.now)) }
+{
+    if text.is_empty() {
+        return None;
     }
-    let mut k: usize = 0;
-    while k < n {
-        if line[k] != name[k] {
-            return false;
-        }
-        k += 1;
-    }
-    true
+    Some(split_once(text, NEWLINE).unwrap_or((text, &[])))
 }
 
 // Whether a line is wanted. Its first byte tells most of those apart that are not.
 pub(crate) fn is_wanted(line: &[u8]) -> bool
     ensures { result ≡ wanted line.now }
 {
-    if line.len() == 0 {
+    let Some(first) = line.first() else {
         return false;
+    };
+    match *first {
+        b'C' => is_set_line(line),
+        b'U' => begins_with(line, b"Uid:"),
+        b'N' => begins_with(line, b"NoNewPrivs:"),
+        _ => false,
     }
-    let b = line[0];
-    if b == b'C' {
-        let inheritable = starts_with(line, b"CapInh:");
-        let permitted = starts_with(line, b"CapPrm:");
-        let effective = starts_with(line, b"CapEff:");
-        let bounding = starts_with(line, b"CapBnd:");
-        let ambient = starts_with(line, b"CapAmb:");
-        return inheritable | (permitted | (effective | (bounding | ambient)));
-    }
-    if b == b'U' {
-        return starts_with(line, b"Uid:");
-    }
-    if b == b'N' {
-        return starts_with(line, b"NoNewPrivs:");
-    }
-    false
 }
 
-// Where the first value of the line of a name begins.
-fn values_of(line: &[u8], name: &[u8]) -> Values
-    ensures { ((f : Form) (fs : List Form) → part_read result line.now f fs ≡ read_entry (record { name = name.now; forms = f ∷ fs }) line.now) × PartWithin result (length line.now) }
+// Whether a line begins with the name of a set.
+fn is_set_line(line: &[u8]) -> bool
+    ensures { result ≡ starts_with (bytes "CapInh:") line.now || (starts_with (bytes "CapPrm:") line.now || (starts_with (bytes "CapEff:") line.now || (starts_with (bytes "CapBnd:") line.now || starts_with (bytes "CapAmb:") line.now))) }
 {
-    if starts_with(line, name) {
-        let n = name.len();
-        if n < line.len() {
-            if line[n] == TAB {
-                return Values::From(n + 1);
-            }
-        }
-    }
-    Values::Missing
+    begins_with(line, b"CapInh:")
+        || begins_with(line, b"CapPrm:")
+        || begins_with(line, b"CapEff:")
+        || begins_with(line, b"CapBnd:")
+        || begins_with(line, b"CapAmb:")
+}
+
+// Whether a line begins with a name.
+fn begins_with(line: &[u8], name: &[u8]) -> bool
+    ensures { result ≡ starts_with name.now line.now }
+{
+    line.starts_with(name)
+}
+
+// The values of the line of a name, behind the tab before the first.
+fn values_of<'a>(line: &'a [u8], name: &[u8]) -> Option<&'a [u8]>
+    ensures { MatchOption result ((f : Form) (fs : List Form) → fault ≡ read_entry (record { name = name.now; forms = f ∷ fs }) line.now) (λ t. (f : Form) (fs : List Form) → behind_tab f fs t.now ≡ read_entry (record { name = name.now; forms = f ∷ fs }) line.now) }
+{
+    line.strip_prefix(name)?.strip_prefix(b"\t")
 }
 
 // The set of the line of a name.
-pub(crate) fn set_line(line: &[u8], name: &[u8], table: &[u8; 256]) -> Value
-    requires { table.now ≡ reading_table }
+pub(crate) fn set_line(line: &[u8], name: &[u8], digits: &Digits) -> Option<u64>
     ensures { line_read result ≡ read_entry (record { name = name.now; forms = set_form ∷ [] }) line.now }
 {
-    let Values::From(p) = values_of(line, name) else {
-        return Value::Fault;
-    };
-    set_value(&line[p..line.len()], table)
+    set_value(values_of(line, name)?, digits)
 }
 
 // The flag of no-new-privs' line.
-pub(crate) fn flag_line(line: &[u8], table: &[u8; 256]) -> Value
-    requires { table.now ≡ reading_table }
+pub(crate) fn flag_line(line: &[u8], digits: &Digits) -> Option<u64>
     ensures { line_read result ≡ read_entry flag_entry line.now }
 {
-    let Values::From(p) = values_of(line, b"NoNewPrivs:") else {
-        return Value::Fault;
-    };
-    decimal_value(&line[p..line.len()], LARGEST_FLAG, table)
+    decimal_value(values_of(line, b"NoNewPrivs:")?, LARGEST_FLAG, digits)
 }
 
-// The ID from the position at up to the next tab, behind which the next value begins.
-fn id_at(line: &[u8], at: usize, table: &[u8; 256]) -> Id
-    requires { (at ≤ length line.now) × (table.now ≡ reading_table) }
-    ensures { ((f : Form) (fs : List Form) → wide_read result line.now f fs ≡ behind_tab id_form (f ∷ fs) (drop at line.now)) × IdWithin result (length line.now) }
+// The ID up to the next tab, and the values behind that.
+fn first_id<'a>(values: &'a [u8], digits: &Digits) -> Option<(u64, &'a [u8])>
+    ensures { MatchOption result ((f : Form) (fs : List Form) → fault ≡ behind_tab id_form (f ∷ fs) values.now) (λ r. (f : Form) (fs : List Form) → first_read r.0 r.1.now f fs ≡ behind_tab id_form (f ∷ fs) values.now) }
 {
-    let end = find(line, at, TAB);
-    if end == line.len() {
-        return Id::Fault;
-    }
-    let Value::Is(value) = decimal_value(&line[at..end], LARGEST_WRITTEN_ID, table) else {
-        return Id::Fault;
-    };
-    Id::Is(value, end + 1)
+    let (part, behind) = split_once(values, TAB)?;
+    let id = decimal_value(part, LARGEST_WRITTEN_ID, digits)?;
+    Some((id, behind))
 }
 
 // The four user IDs of their line.
-pub(crate) fn ids_line(line: &[u8], table: &[u8; 256]) -> IdsLine
-    requires { table.now ≡ reading_table }
+pub(crate) fn ids_line(line: &[u8], digits: &Digits) -> Option<Ids>
     ensures { ids_read result ≡ read_entry ids_entry line.now }
 {
-    let Values::From(p) = values_of(line, b"Uid:") else {
-        return IdsLine::Fault;
-    };
-    let Id::Is(real, q) = id_at(line, p, table) else {
-        return IdsLine::Fault;
-    };
-    let Id::Is(effective, u) = id_at(line, q, table) else {
-        return IdsLine::Fault;
-    };
-    let Id::Is(saved, v) = id_at(line, u, table) else {
-        return IdsLine::Fault;
-    };
-    let last = decimal_value(&line[v..line.len()], LARGEST_WRITTEN_ID, table);
-    let Value::Is(filesystem) = last else {
-        return IdsLine::Fault;
-    };
-    IdsLine::Are(Ids {
+    let values = values_of(line, b"Uid:")?;
+    let (real, values) = first_id(values, digits)?;
+    let (effective, values) = first_id(values, digits)?;
+    let (saved, values) = first_id(values, digits)?;
+    let filesystem = decimal_value(values, LARGEST_WRITTEN_ID, digits)?;
+    Some(Ids {
         real,
         effective,
         saved,

@@ -3,9 +3,10 @@ use Prim.Native.Nat.{ℕ}
 use mathlib.Core.Path.{◌≡◌, refl, sym, ◌∙◌, subst}
 use mathlib.Core.Bool.{Bool, true, false, cond, true≢false}
 use lib.Dec.{eqb, ltb}
+use Rattle.std.specs.Prelude.{Err}
 use Rattle.credentials.specs.declared.Credentials.{Credentials}
-use Rattle.rules.specs.declared.Answer.{Answer}
-use Rattle.rules.specs.declared.Answer.TheVariants.{InvalidArgument, InvalidCredentials}
+use Rattle.rules.specs.Answers.{Answer}
+use Rattle.rules.specs.declared.Refusal.TheVariants.{InvalidArgument, InvalidCredentials}
 use Rattle.rules.proofs.Conditions.{cond_cases}
 use Rattle.threads.specs.declared.Decision.{Decision}
 use Rattle.threads.specs.declared.Decision.TheVariants.{Answered, Forks, Exits}
@@ -47,7 +48,7 @@ module _ (one other : Threads) (s : SlotStep) where
   answer_same no_fork same =
       alike_by SameAnswer same same_refused
       (decided_cases (held one s.slot) s.step (λ (d : Decision). SameAnswer (carried_out one s.slot d) (carried_out other s.slot d))
-      (λ o. same_answered InvalidArgument) (λ o. same_answered InvalidCredentials)
+      (λ o. same_answered (Err InvalidArgument)) (λ o. same_answered (Err InvalidCredentials))
       (λ f v. absurd (true≢false (sym f ∙ no_fork)))
       (λ f e. record { code = refl; value = refl; cause = refl })
       (λ f e. same_answered (asked one s)))

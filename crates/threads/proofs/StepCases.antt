@@ -8,13 +8,14 @@ use lib.Dec.{eqb, ltb}
 use lib.ListN.{length, set}
 use lib.Seq.{set-get_or}
 use borrow.Author.Tests.{ltb-true, ltb-false}
+use Rattle.std.specs.Prelude.{Err}
 use Rattle.credentials.specs.Validity.{valid}
 use Rattle.credentials.specs.declared.Credentials.{Credentials}
 use Rattle.rules.specs.Call.{answer}
 use Rattle.rules.specs.Decoding.{uses_none}
 use Rattle.rules.specs.Run.{Step}
-use Rattle.rules.specs.declared.Answer.{Answer}
-use Rattle.rules.specs.declared.Answer.TheVariants.{InvalidArgument, InvalidCredentials}
+use Rattle.rules.specs.Answers.{Answer}
+use Rattle.rules.specs.declared.Refusal.TheVariants.{InvalidArgument, InvalidCredentials}
 use Rattle.rules.proofs.Conditions.{cond_cases}
 use Rattle.threads.specs.declared.Decision.{Decision}
 use Rattle.threads.specs.declared.Decision.TheVariants.{Answered, Forks, Exits}
@@ -26,8 +27,8 @@ use Rattle.threads.specs.Step.{SlotStep, FORK, EXIT, unless_refused, decided, re
 -- what the slot's credentials decide: what holds of each decision that the tests on the way lead to holds of it
 module _ (start : Credentials) (x : Step) (P : Decision → Type 0) where
   pub decided_cases :
-      (eqb x.number FORK || eqb x.number EXIT ≡ true → P (Answered InvalidArgument))
-      → (eqb x.number FORK || eqb x.number EXIT ≡ true → P (Answered InvalidCredentials))
+      (eqb x.number FORK || eqb x.number EXIT ≡ true → P (Answered (Err InvalidArgument)))
+      → (eqb x.number FORK || eqb x.number EXIT ≡ true → P (Answered (Err InvalidCredentials)))
       → (eqb x.number FORK ≡ true → valid start ≡ true → P Forks)
       → (eqb x.number FORK ≡ false → eqb x.number EXIT ≡ true → P Exits)
       → (eqb x.number FORK ≡ false → eqb x.number EXIT ≡ false → P (Answered (answer start x.number x.a x.b x.c x.attribute)))
@@ -59,10 +60,10 @@ pub kept : (table : Threads) (slot : ℕ) → set table.credentials slot (held t
 kept table slot = set-get_or table.credentials slot empty
 
 -- so a call's refusal is a refusal
-pub refused_argument : (table : Threads) (slot : ℕ) → answered table slot InvalidArgument ≡ refused table 22
+pub refused_argument : (table : Threads) (slot : ℕ) → answered table slot (Err InvalidArgument) ≡ refused table 22
 refused_argument table slot = rw (kept table slot)
 
-pub refused_credentials : (table : Threads) (slot : ℕ) → answered table slot InvalidCredentials ≡ refused table 72
+pub refused_credentials : (table : Threads) (slot : ℕ) → answered table slot (Err InvalidCredentials) ≡ refused table 72
 refused_credentials table slot = rw (kept table slot)
 
 -- what the named slot's credentials answer to the step as a call

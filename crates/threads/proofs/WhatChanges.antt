@@ -8,10 +8,10 @@ use lib.Dec.{eqb, leb, ltb}
 use lib.ListN.{length-set}
 use lib.Seq.{get_or-set_same, get_or-set_other}
 use borrow.Author.Tests.{ltb-true, ltb-false, leb-true, leb-false}
+use Rattle.std.specs.Prelude.{Ok, Err}
 use Rattle.credentials.specs.declared.Credentials.{Credentials}
-use Rattle.rules.specs.Answers.{code}
-use Rattle.rules.specs.declared.Answer.{Answer}
-use Rattle.rules.specs.declared.Answer.TheVariants.{Done, NotPermitted, InvalidArgument, UnreadableAttribute, InvalidCredentials}
+use Rattle.rules.specs.Answers.{Answer, code}
+use Rattle.rules.specs.declared.Refusal.TheVariants.{NotPermitted, InvalidArgument, UnreadableAttribute, InvalidCredentials}
 use Rattle.rules.proofs.Conditions.{cond_cases}
 use Rattle.threads.specs.declared.SlotResult.{SlotResult}
 use Rattle.threads.specs.declared.Threads.{Threads}
@@ -62,11 +62,11 @@ sized table s z =
 -- ---- what is changed
 
 answered_refusal : (table : Threads) (slot : ℕ) (r : Answer) → eqb (code r) 0 ≡ false → (answered table slot r).table ≡ table
-answered_refusal table slot (Done v c) h = absurd (true≢false h)
-answered_refusal table slot (NotPermitted why) h = rw (kept table slot)
-answered_refusal table slot InvalidArgument h = rw (kept table slot)
-answered_refusal table slot UnreadableAttribute h = rw (kept table slot)
-answered_refusal table slot InvalidCredentials h = rw (kept table slot)
+answered_refusal table slot (Ok d) h = absurd (true≢false h)
+answered_refusal table slot (Err (NotPermitted why)) h = rw (kept table slot)
+answered_refusal table slot (Err InvalidArgument) h = rw (kept table slot)
+answered_refusal table slot (Err UnreadableAttribute) h = rw (kept table slot)
+answered_refusal table slot (Err InvalidCredentials) h = rw (kept table slot)
 
 forked_refusal : (table : Threads) (caller : Credentials) (free : ℕ) → eqb (forked table caller free).code 0 ≡ false → (forked table caller free).table ≡ table
 unfolding forked

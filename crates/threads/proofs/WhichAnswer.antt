@@ -7,13 +7,13 @@ use mathlib.Core.Bool.{Bool, true, false, cond, true≢false}
 use lib.Dec.{eqb, ltb}
 use lib.Seq.{get_or-set_same, get_or-set_other}
 use borrow.Author.Tests.{ltb-true, ltb-false, lt-ltb, le-ltb}
+use Rattle.std.specs.Prelude.{Ok, Err}
 use Rattle.credentials.specs.Validity.{valid}
 use Rattle.credentials.specs.declared.Credentials.{Credentials}
-use Rattle.rules.specs.Answers.{code}
+use Rattle.rules.specs.Answers.{Answer, code}
 use Rattle.rules.specs.Call.{answer}
 use Rattle.rules.specs.Run.{Step, result}
-use Rattle.rules.specs.declared.Answer.{Answer}
-use Rattle.rules.specs.declared.Answer.TheVariants.{Done, NotPermitted, InvalidArgument, UnreadableAttribute, InvalidCredentials}
+use Rattle.rules.specs.declared.Refusal.TheVariants.{NotPermitted, InvalidArgument, UnreadableAttribute, InvalidCredentials}
 use Rattle.rules.proofs.Conditions.{cond_cases}
 use Rattle.threads.specs.declared.Decision.{Decision}
 use Rattle.threads.specs.declared.Decision.TheVariants.{Answered, Forks, Exits}
@@ -49,11 +49,11 @@ module _ (table : Threads) (s : SlotStep) where
   carried_by : Named table s → (d : Decision) → decided (held table s.slot) s.step ≡ d → step_in table s ≡ carried_out table s.slot d
   carried_by n d e = carried n ∙ ap (carried_out table s.slot) e
 
-invalid_decides : (start : Credentials) (x : Step) → valid start ≡ false → decided start x ≡ Answered InvalidCredentials
+invalid_decides : (start : Credentials) (x : Step) → valid start ≡ false → decided start x ≡ Answered (Err InvalidCredentials)
 unfolding decided unless_refused answer
 invalid_decides start x v =
-    cond_cases (λ (d : Decision). d ≡ Answered InvalidCredentials) (eqb x.number FORK) _ _ (λ f. rw v)
-    (λ f. cond_cases (λ (d : Decision). d ≡ Answered InvalidCredentials) (eqb x.number EXIT) _ _ (λ e. rw v) (λ e. rw v))
+    cond_cases (λ (d : Decision). d ≡ Answered (Err InvalidCredentials)) (eqb x.number FORK) _ _ (λ f. rw v)
+    (λ f. cond_cases (λ (d : Decision). d ≡ Answered (Err InvalidCredentials)) (eqb x.number EXIT) _ _ (λ e. rw v) (λ e. rw v))
 
 pub invalid : (table : Threads) (s : SlotStep) → Named table s → valid (held table s.slot) ≡ false → Refused table 72 (step_in table s)
 invalid table s n v =
@@ -67,11 +67,11 @@ module _ (start : Credentials) (s : SlotStep) where
       rw (or_left_false (eqb s.step.number FORK) (eqb s.step.number EXIT) c, or_right_false (eqb s.step.number FORK) (eqb s.step.number EXIT) c)
 
   -- a fork or an exit of valid credentials, by whether an operand or an attribute is given
-  fork_decides : valid start ≡ true → Fork s → (b : Bool) → bare s ≡ b → decided start s.step ≡ cond b Forks (Answered InvalidArgument)
+  fork_decides : valid start ≡ true → Fork s → (b : Bool) → bare s ≡ b → decided start s.step ≡ cond b Forks (Answered (Err InvalidArgument))
   unfolding decided unless_refused
   fork_decides v f b e = rw (f, v, e)
 
-  exit_decides : valid start ≡ true → Exit s → (b : Bool) → bare s ≡ b → decided start s.step ≡ cond b Exits (Answered InvalidArgument)
+  exit_decides : valid start ≡ true → Exit s → (b : Bool) → bare s ≡ b → decided start s.step ≡ cond b Exits (Answered (Err InvalidArgument))
   unfolding decided unless_refused
   exit_decides v x b e = rw (fork_no_exit s.step.number x, x, v, e)
 
@@ -152,11 +152,11 @@ module _ (table : Threads) (s : SlotStep) where
 
 -- a call's code is no 11
 answered_not_11 : (r : Answer) → code r ≡ 11 → ⊥
-answered_not_11 (Done v c) h = omega (arith, h)
-answered_not_11 (NotPermitted why) h = omega (arith, h)
-answered_not_11 InvalidArgument h = omega (arith, h)
-answered_not_11 UnreadableAttribute h = omega (arith, h)
-answered_not_11 InvalidCredentials h = omega (arith, h)
+answered_not_11 (Ok d) h = omega (arith, h)
+answered_not_11 (Err (NotPermitted why)) h = omega (arith, h)
+answered_not_11 (Err InvalidArgument) h = omega (arith, h)
+answered_not_11 (Err UnreadableAttribute) h = omega (arith, h)
+answered_not_11 (Err InvalidCredentials) h = omega (arith, h)
 
 forked_11 : (table : Threads) (caller : Credentials) (free : ℕ) → (forked table caller free).code ≡ 11 → SLOTS ≤ free
 unfolding forked

@@ -1,14 +1,13 @@
 -- A step in a slot ("The whole machine, not one thread"): for any table, slot number, call number, operands and attribute bytes, the code, the value, the
 -- cause and the table. And steps one after the other. Assumes nothing.
-use Rattle.std.specs.Prelude.{ℕ, true, false, cond, List, [], ◌∷◌, eqb, ltb, length}
+use Rattle.std.specs.Prelude.{ℕ, true, false, cond, List, [], ◌∷◌, eqb, ltb, length, Err}
 use Rattle.credentials.specs.Validity.{valid}
 use Rattle.credentials.specs.declared.Credentials.{Credentials}
-use Rattle.rules.specs.Answers.{code, value, cause, after}
+use Rattle.rules.specs.Answers.{after, Answer, cause, code, value}
 use Rattle.rules.specs.Call.{answer}
 use Rattle.rules.specs.Decoding.{uses_none}
 use Rattle.rules.specs.Run.{Step}
-use Rattle.rules.specs.declared.Answer.{Answer}
-use Rattle.rules.specs.declared.Answer.TheVariants.{InvalidArgument, InvalidCredentials}
+use Rattle.rules.specs.declared.Refusal.TheVariants.{InvalidArgument, InvalidCredentials}
 use Rattle.threads.specs.declared.Decision.{Decision}
 use Rattle.threads.specs.declared.Decision.TheVariants.{Answered, Forks, Exits}
 use Rattle.threads.specs.declared.SlotResult.{SlotResult}
@@ -33,8 +32,8 @@ pub record SlotStep : Type 0 where
 unfoldable pub unless_refused : Credentials → Step → Decision → Decision
 unless_refused start x done =
     cond (valid start)
-    (cond (uses_none x.a x.b x.c (length x.attribute)) done (Answered InvalidArgument))
-    (Answered InvalidCredentials)
+    (cond (uses_none x.a x.b x.c (length x.attribute)) done (Answered (Err InvalidArgument)))
+    (Answered (Err InvalidCredentials))
 
 -- 30 forks, 31 exits, any other number is a call on these credentials, which has its 72, 22, 60 and 1 by itself
 unfoldable pub decided : Credentials → Step → Decision

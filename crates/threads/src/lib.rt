@@ -6,7 +6,8 @@
 use credentials::Credentials;
 use rules::Answer;
 
-// The threads of a machine: each slot's credentials, and whether the slot is in use. What a slot holds that is not in use shows nowhere.
+// The threads of a machine: each slot's credentials, and whether the slot is in use. What a slot holds that is not in use shows nowhere. An
+// array of credentials and the slots' use marks, by value, is the form that document 01 names.
 #[derive(Clone, Copy)]
 pub struct Threads {
     pub credentials: [Credentials; 96],
@@ -22,7 +23,8 @@ pub enum Decision {
     Exits,
 }
 
-// What comes back from a step in a slot: code, cause, value, and the table after it.
+// What comes back from a step in a slot: code, cause, value, and the table after it. They are numbers, since the definition
+// `step_in` and the statement `Slots` speak of code, cause and value as numbers, as the report has them.
 #[derive(Clone, Copy)]
 pub struct SlotResult {
     pub code: u8,

@@ -6,29 +6,26 @@
 ghost use Rattle.std.specs.Prelude.{◌≡◌, ◌+◌, length};
 ghost use Rattle.format.specs.Longest.{longest_plan, longest_report};
 
-use format::Outcome;
+use format::PlanError;
 use std::io;
 
-// Writes what the plan comes to: the report, which is in the buffer, or the refusal.
-fn answer(rt: &impl Print, ran: Outcome, report: &[u8]) -> io::Result<()> {
-    let length = ran.length as usize;
-    if ran.code == 0 {
-        if length <= report.len() {
-            rt.write_all(&report[0..length])?;
-        }
-        return Ok(());
+// Prints what the plan comes to: the report, of that length at the front of the buffer, or why it is refused. (In each program: a library prints nothing.)
+fn print_answer(rt: &impl Print, ran: Result<u32, PlanError>, report: &[u8]) -> io::Result<()> {
+    match ran {
+        Ok(length) => rt.write_all(&report[..report.len().min(length as usize)]),
+        Err(error) => println!(rt; "code={}\nline={}", u8::from(error), error.line()),
     }
-    println!(rt; "code={}\nline={}", ran.code, ran.line)
 }
 
 // Reads the plan and answers it. The first buffer has one byte more than the longest plan: a longer text is cut there, and its fault is before the
 // cut. The second is as long as the longest report.
+// (Each program has a `run` of its own, for the clause on its own buffers.)
 fn run(rt: &(impl Input + Print), text: &mut [u8], report: &mut [u8]) -> io::Result<()>
     requires { (length text.old ≡ longest_plan + 1) × (length report.old ≡ longest_report) }
 {
     let size = input::read_full(&mut rt.reader(), text)?;
     let ran = plan::run_plan(&text[0..size], report);
-    answer(rt, ran, report)
+    print_answer(rt, ran, report)
 }
 
 fn main(rt: HostRuntime) -> io::Result<()> {

@@ -1,11 +1,8 @@
-// The values of a row. A value begins after `=` or `,`.
-ghost use Rattle.std.specs.Prelude.{◌≡◌, ◌≤◌, length};
+// The values of a row, one after the other. A value begins after `=` or `,`.
+ghost use Rattle.std.specs.Prelude.{◌≤◌, IfSome};
 
 // The most bytes that a row's last field is read as.
 pub(crate) const LARGEST_SIZE: usize = 32;
-
-// What `digit` answers where there is none.
-const NO_DIGIT: u64 = 16;
 
 // A value below this takes one more hex digit.
 const ROOM_FOR_HEX: u64 = 0x1000_0000_0000_0000;
@@ -13,113 +10,88 @@ const ROOM_FOR_HEX: u64 = 0x1000_0000_0000_0000;
 // A value below this takes one more decimal digit; the largest one only up to 5.
 const ROOM_FOR_DECIMAL: u64 = 1844674407370955162;
 
-// A number of a row, and where it ends.
+// What is left of a row behind the values that were read.
 #[derive(Clone, Copy)]
-pub(crate) struct Value {
-    pub value: u64,
-    pub end: usize,
+pub(crate) struct Fields<'a> {
+    rest: &'a [u8],
 }
 
-// Where the next value begins.
-pub(crate) fn value_start(row: &[u8], from: usize) -> usize {
-    let mut at = from;
-    while at < row.len() {
-        if (row[at] == b'=') | (row[at] == b',') {
-            return at + 1;
-        }
-        at += 1;
+impl<'a> Fields<'a> {
+    pub(crate) fn of(row: &'a [u8]) -> Fields<'a> {
+        Fields { rest: row }
     }
-    at
-}
 
-pub(crate) fn decimal(row: &[u8], from: usize) -> Value {
-    number(row, from, false)
-}
-
-pub(crate) fn hex(row: &[u8], from: usize) -> Value {
-    number(row, from, true)
-}
-
-fn number(row: &[u8], from: usize, is_hex: bool) -> Value {
-    let mut at = value_start(row, from);
-    let mut value = 0u64;
-    while at < row.len() {
-        let next = digit(row[at]);
-        if next == NO_DIGIT {
-            return Value { value, end: at };
+    // The row from the next value on.
+    pub(crate) fn text(&self) -> &'a [u8] {
+        let rest = self.rest;
+        match rest.iter().position(|b| (*b == b'=') | (*b == b',')) {
+            Some(at) => &rest[at + 1..],
+            None => &rest[rest.len()..],
         }
-        value = with_digit(value, is_hex, next);
-        at += 1;
     }
-    Value { value, end: at }
+
+    pub(crate) fn decimal(&mut self) -> u64 {
+        self.number(false)
+    }
+
+    pub(crate) fn hex(&mut self) -> u64 {
+        self.number(true)
+    }
+
+    fn number(&mut self, is_hex: bool) -> u64 {
+        let text = self.text();
+        let size = text
+            .iter()
+            .position(|b| digit(*b).is_none())
+            .unwrap_or(text.len());
+        let (digits, rest) = text.split_at(size);
+        self.rest = rest;
+        let mut value = 0;
+        for glyph in digits {
+            value = with_digit(value, is_hex, nibble(*glyph));
+        }
+        value
+    }
+
+    // The bytes of the last value, two digits each, as many as the buffer has room for: at its front.
+    pub(crate) fn bytes<'b>(&self, buffer: &'b mut [u8; LARGEST_SIZE]) -> &'b [u8] {
+        let value = self.text();
+        let size = (value.len() / 2).min(LARGEST_SIZE);
+        for (place, pair) in buffer.iter_mut().zip(value.chunks_exact(2)) {
+            *place = byte(pair[0], pair[1]);
+        }
+        &buffer[..size]
+    }
 }
 
 // A number with one more digit behind it. Digits that it has no room for are lost.
-fn with_digit(value: u64, is_hex: bool, next: u64) -> u64
+fn with_digit(value: u64, is_hex: bool, next: u8) -> u64
     requires { next ≤ 15 }
 {
     if is_hex {
-        return value % ROOM_FOR_HEX * 16 + next;
+        return value % ROOM_FOR_HEX * 16 + u64::from(next);
     }
-    std::num::wrapping_add_u64(value % ROOM_FOR_DECIMAL * 10, next)
-}
-
-// How many bytes the row's last field has, two digits each.
-pub(crate) fn size(row: &[u8], from: usize) -> usize
-    ensures { result ≤ 32 }
-{
-    let at = value_start(row, from);
-    if row.len() <= at {
-        return 0;
-    }
-    let size = (row.len() - at) / 2;
-    if size < LARGEST_SIZE {
-        return size;
-    }
-    LARGEST_SIZE
-}
-
-// Those bytes, and 0 past them.
-pub(crate) fn bytes(row: &[u8], from: usize) -> [u8; 32]
-    ensures { length result ≡ 32 }
-{
-    let mut bytes = [0u8; LARGEST_SIZE];
-    let mut n = 0;
-    let mut at = value_start(row, from);
-    while at < row.len() {
-        if n == LARGEST_SIZE {
-            break;
-        }
-        if row.len() - at < 2 {
-            break;
-        }
-        bytes[n] = byte(row[at], row[at + 1]);
-        n += 1;
-        at += 2;
-    }
-    bytes
+    (value % ROOM_FOR_DECIMAL * 10).wrapping_add(u64::from(next))
 }
 
 pub(crate) fn byte(high: u8, low: u8) -> u8 {
-    (digit(high) % 16 * 16 + digit(low) % 16) as u8
+    nibble(high) * 16 + nibble(low)
+}
+
+// A digit's value, or 0 where it is none.
+fn nibble(glyph: u8) -> u8
+    ensures { result ≤ 15 }
+{
+    digit(glyph).unwrap_or(0)
 }
 
 // A digit's value, decimal or lower-case hex.
-fn digit(glyph: u8) -> u64
-    ensures { result ≤ 16 }
+fn digit(glyph: u8) -> Option<u8>
+    ensures { IfSome result (λ value. value ≤ 15) }
 {
-    let x = glyph as u64;
-    if x < 48 {
-        return NO_DIGIT;
+    match glyph {
+        b'0'..=b'9' => Some(glyph - b'0'),
+        b'a'..=b'f' => Some(glyph - b'a' + 10),
+        _ => None,
     }
-    if x < 58 {
-        return x - 48;
-    }
-    if x < 97 {
-        return NO_DIGIT;
-    }
-    if x < 103 {
-        return x - 87;
-    }
-    NO_DIGIT
 }

@@ -15,8 +15,6 @@ mod steps;
 mod tables;
 mod thread;
 
-ghost use Rattle.std.specs.Prelude.{◌≤◌, length};
-
 use std::io;
 
 // How many bytes of rows are read at most.
@@ -29,37 +27,16 @@ fn main(rt: HostRuntime) -> io::Result<()> {
 }
 
 fn show_lines(rt: &impl Print, text: &[u8]) -> io::Result<()> {
-    let mut from = 0;
-    while from < text.len() {
-        let end = line_end(text, from);
-        show_line(rt, &text[from..end])?;
-        from = end + 1;
+    for line in text.split_inclusive(|b| *b == b'\n') {
+        show_line(rt, line.strip_suffix(b"\n").unwrap_or(line))?;
     }
     Ok(())
-}
-
-// Where the line that starts at from ends: at its newline, or where the text does.
-fn line_end(text: &[u8], from: usize) -> usize
-    requires { from ≤ length text.now }
-    ensures { (from ≤ result) × (result ≤ length text.now) }
-{
-    let mut at = from;
-    while at < text.len() {
-        if text[at] == b'\n' {
-            return at;
-        }
-        at += 1;
-    }
-    at
 }
 
 fn show_line(rt: &impl Print, line: &[u8]) -> io::Result<()> {
     output::text(rt, line)?;
     output::text(rt, b"\n")?;
-    if line.len() == 0 {
-        return Ok(());
-    }
-    match line[0] {
+    match line.first().copied().unwrap_or(b'#') {
         b'#' => Ok(()),
         b'n' => named::show_written(rt, line),
         b'r' => attributes::show_reading(rt, line),

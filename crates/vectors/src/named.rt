@@ -1,9 +1,10 @@
 // Capabilities in names: texts that are read, and sets that are written.
-ghost use Rattle.std.specs.Prelude.{◌+◌, ◌<◌, ◌≤◌, length};
+ghost use Rattle.std.specs.Prelude.{◌≤◌, length};
 
+use crate::fields::Fields;
 use crate::{fields, output};
-use codes::{MALFORMED, wide};
-use names::{Reading, Sets};
+use codes::MALFORMED;
+use names::{ReadError, Sets};
 use std::io;
 
 // The most bytes of a text, and of a buffer.
@@ -19,9 +20,9 @@ pub(crate) fn show_text(rt: &impl Print, row: &[u8]) -> io::Result<()> {
     let mut text = [0u8; LARGEST_TEXT];
     let size = text_of(row, &mut text);
     match names_reader::read_names(&text[0..size]) {
-        Reading::Means(held) => show_sets(rt, held)?,
-        Reading::Malformed(place) => {
-            output::decimal(rt, b"code=", wide(MALFORMED))?;
+        Ok(held) => show_sets(rt, held)?,
+        Err(ReadError::Malformed(place)) => {
+            output::decimal(rt, b"code=", u64::from(MALFORMED))?;
             output::decimal(rt, b" place=", place as u64)?;
         }
     }
@@ -37,27 +38,26 @@ fn show_sets(rt: &impl Print, held: Sets) -> io::Result<()> {
 
 // The sets of `names=` in a buffer of `room=` bytes, each `.` before.
 pub(crate) fn show_written(rt: &impl Print, row: &[u8]) -> io::Result<()> {
-    let permitted = fields::hex(row, 0);
-    let inheritable = fields::hex(row, permitted.end);
-    let effective = fields::hex(row, inheritable.end);
-    let room = fields::decimal(row, effective.end).value as usize;
+    let mut fields = Fields::of(row);
+    let permitted = fields.hex();
+    let inheritable = fields.hex();
+    let effective = fields.hex();
+    let room = fields.decimal() as usize;
     let held = Sets {
-        permitted: permitted.value,
-        inheritable: inheritable.value,
-        effective: effective.value,
+        permitted,
+        inheritable,
+        effective,
     };
     let mut buffer = [b'.'; LARGEST_ROOM];
-    if room <= LARGEST_ROOM {
-        write(rt, held, &mut buffer[0..room])?;
+    if let Some(lent) = buffer.get_mut(..room) {
+        write(rt, held, lent)?;
     }
     Ok(())
 }
 
 // The writer's answer, and the whole buffer afterwards.
 fn write(rt: &impl Print, held: Sets, buffer: &mut [u8]) -> io::Result<()> {
-    let answer = names_writer::write_names(held, buffer);
-    output::decimal(rt, b"code=", wide(answer.code))?;
-    output::decimal(rt, b" length=", answer.length as u64)?;
+    output::written(rt, names_writer::write_names(held, buffer))?;
     output::text(rt, b" buffer=")?;
     output::text(rt, buffer)?;
     output::text(rt, b"\n")
@@ -67,48 +67,26 @@ fn write(rt: &impl Print, held: Sets, buffer: &mut [u8]) -> io::Result<()> {
 fn text_of(row: &[u8], text: &mut [u8]) -> usize
     ensures { result ≤ length text.old }
 {
-    let mut at = fields::value_start(row, 0);
-    let mut n = 0;
-    while at < row.len() {
-        if text.len() <= n {
+    let mut rest = Fields::of(row).text();
+    let room = text.len();
+    for (n, place) in text.iter_mut().enumerate() {
+        let Some((byte, after)) = glyph(rest) else {
             return n;
-        }
-        let next = glyph_at(row, at);
-        text[n] = next.byte;
-        n += 1;
-        at += next.size;
+        };
+        *place = byte;
+        rest = after;
     }
-    n
+    room
 }
 
-// A byte of a text, and how many bytes of the row stand for it.
-#[derive(Clone, Copy)]
-struct Glyph {
-    byte: u8,
-    size: usize,
-}
-
-fn glyph_at(row: &[u8], at: usize) -> Glyph
-    requires { at < length row.now }
-    ensures { (1 ≤ result.size) × (at + result.size ≤ length row.now) }
-{
-    let left = row.len() - at;
-    let byte = row[at];
-    if byte != ESCAPE {
-        return Glyph { byte, size: 1 };
+// The byte that a text begins with, typed or escaped, and what follows it.
+fn glyph(text: &[u8]) -> Option<(u8, &[u8])> {
+    match text {
+        [] => None,
+        [ESCAPE, b'x', high, low, after @ ..] => Some((fields::byte(*high, *low), after)),
+        [ESCAPE, letter, after @ ..] if *letter != b'x' => Some((escaped(*letter), after)),
+        [byte, after @ ..] => Some((*byte, after)),
     }
-    if left < 2 {
-        return Glyph { byte, size: 1 };
-    }
-    if row[at + 1] != b'x' {
-        let byte = escaped(row[at + 1]);
-        return Glyph { byte, size: 2 };
-    }
-    if left < 4 {
-        return Glyph { byte, size: 1 };
-    }
-    let byte = fields::byte(row[at + 2], row[at + 3]);
-    Glyph { byte, size: 4 }
 }
 
 fn escaped(letter: u8) -> u8 {

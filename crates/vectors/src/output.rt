@@ -1,4 +1,5 @@
 // Lines of `key=value` words on standard output.
+use attribute::WriteError;
 use std::io;
 
 pub(crate) fn text(rt: &impl Print, words: &[u8]) -> io::Result<()> {
@@ -16,12 +17,17 @@ pub(crate) fn hex(rt: &impl Print, key: &[u8], value: u64, width: usize) -> io::
 }
 
 pub(crate) fn flag(rt: &impl Print, key: &[u8], value: bool) -> io::Result<()> {
-    rt.write_all(key)?;
-    if value {
-        rt.write_all(b"1")
-    } else {
-        rt.write_all(b"0")
-    }
+    decimal(rt, key, u64::from(value))
+}
+
+// What a writer answers: a code, and how many bytes it wrote.
+pub(crate) fn written(rt: &impl Print, answer: Result<u32, WriteError>) -> io::Result<()> {
+    let (code, length) = match answer {
+        Ok(length) => (0, length),
+        Err(error) => (u8::from(error), 0),
+    };
+    decimal(rt, b"code=", u64::from(code))?;
+    decimal(rt, b" length=", u64::from(length))
 }
 
 // Each byte as two digits.

@@ -1,10 +1,11 @@
 // Steps in a slot of a table of threads.
-use crate::{fields, output, tables, thread};
+use crate::fields::{Fields, LARGEST_SIZE};
+use crate::{output, tables, thread};
 use std::io;
 
 const FORK: u64 = 30;
 
-// The step of a row, and where it ends.
+// The step of a row.
 #[derive(Clone, Copy)]
 struct Step {
     slot: u64,
@@ -12,41 +13,34 @@ struct Step {
     a: u64,
     b: u64,
     c: u64,
-    end: usize,
 }
 
 // The slot's and the call's number (decimal) and the operands (hex).
-fn step_of(row: &[u8]) -> Step {
-    let slot = fields::decimal(row, 0);
-    let number = fields::decimal(row, slot.end);
-    let a = fields::hex(row, number.end);
-    let b = fields::hex(row, a.end);
-    let c = fields::hex(row, b.end);
+fn step_of(fields: &mut Fields<'_>) -> Step {
     Step {
-        slot: slot.value,
-        number: number.value,
-        a: a.value,
-        b: b.value,
-        c: c.value,
-        end: c.end,
+        slot: fields.decimal(),
+        number: fields.decimal(),
+        a: fields.hex(),
+        b: fields.hex(),
+        c: fields.hex(),
     }
 }
 
 // What comes back from a step in a slot of the row's table: code, value, cause, the marks of use, and the credentials in the slot that a fork took, or
 // else in the one that is named.
 pub(crate) fn show_step(rt: &impl Print, row: &[u8]) -> io::Result<()> {
-    let step = step_of(row);
-    let given = tables::table_of(row, step.end, step.slot);
-    let bytes = fields::bytes(row, given.end);
-    let size = fields::size(row, given.end);
+    let mut fields = Fields::of(row);
+    let step = step_of(&mut fields);
+    let table = tables::table_of(&mut fields, step.slot);
+    let mut buffer = [0u8; LARGEST_SIZE];
     let result = slots::step(
-        given.table,
+        table,
         step.slot,
         step.number,
         step.a,
         step.b,
         step.c,
-        &bytes[0..size],
+        fields.bytes(&mut buffer),
     );
     let mut shown = step.slot;
     if (step.number == FORK) & (result.code == 0) {

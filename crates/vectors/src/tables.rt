@@ -1,7 +1,7 @@
 // Tables of threads, those too that no slot plan reaches.
-ghost use Rattle.std.specs.Prelude.{◌≤◌};
-
-use crate::{fields, output, thread};
+use crate::fields::Fields;
+use crate::{output, thread};
+use capabilities::sets;
 use credentials::{Credentials, Ids, Sets};
 use std::io;
 use threads::Threads;
@@ -56,34 +56,16 @@ const INVALID: Credentials = Credentials {
     nnp: true,
 };
 
-// The table of a row, and where it ends.
-#[derive(Clone, Copy)]
-pub(crate) struct Given {
-    pub table: Threads,
-    pub end: usize,
-}
-
-// The marks of use (two words, hex), the slot that holds INVALID (decimal; none for one above 95), and the credentials of the slot that the step
-// names.
-pub(crate) fn table_of(row: &[u8], from: usize, slot: u64) -> Given {
-    let low = fields::hex(row, from);
-    let high = fields::hex(row, low.end);
-    let other = fields::decimal(row, high.end);
-    let start = thread::start_of(row, other.end);
-    let given = start.given;
-    let used = marked(
-        marked([false; SLOTS], low.value, 0, MARKS),
-        high.value,
-        MARKS,
-        SLOTS,
-    );
+// The table of a row: the marks of use (two words, hex), the slot that holds INVALID (decimal; none for one above 95), and the credentials of the slot that
+// the step names.
+pub(crate) fn table_of(fields: &mut Fields<'_>, slot: u64) -> Threads {
+    let low = fields.hex();
+    let high = fields.hex();
+    let other = fields.decimal();
+    let start = thread::start_of(fields);
     let mut fresh = slots::fresh(EMPTY);
-    fresh.used = used;
-    let table = with(with(fresh, other.value, INVALID), slot, given);
-    Given {
-        table,
-        end: start.end,
-    }
+    fresh.used = marked(low, high);
+    with(with(fresh, other, INVALID), slot, start)
 }
 
 // A table with these credentials in a slot.
@@ -96,38 +78,29 @@ fn with(table: Threads, slot: u64, held: Credentials) -> Threads {
     next
 }
 
-// The marks of use with those of some slots as the bits of a word say, the lowest bit first.
-fn marked(given: [bool; 96], word: u64, from: usize, end: usize) -> [bool; 96]
-    requires { end ≤ 96 }
-{
-    let mut used = given;
-    let mut i = from;
-    while i < end {
-        let bit = 1u64 << (i % MARKS);
-        used[i] = word & bit != 0;
-        i += 1;
+// The marks of use as the bits of two words say, the lowest bit first.
+fn marked(low: u64, high: u64) -> [bool; SLOTS] {
+    let mut used = [false; SLOTS];
+    for (i, mark) in used.iter_mut().enumerate() {
+        let word = if i < MARKS { low } else { high };
+        *mark = sets::has(word, (i % MARKS) as u64);
     }
     used
 }
 
 pub(crate) fn show_marks(rt: &impl Print, table: &Threads) -> io::Result<()> {
-    let used = table.used;
-    output::hex(rt, b" used=", word(used, 0, MARKS), 1)?;
-    output::hex(rt, b",", word(used, MARKS, SLOTS), 1)
+    let (low, high) = table.used.split_at(MARKS);
+    output::hex(rt, b" used=", word(low), 1)?;
+    output::hex(rt, b",", word(high), 1)
 }
 
 // The marks of some slots as such a word.
-fn word(used: [bool; 96], from: usize, end: usize) -> u64
-    requires { end ≤ 96 }
-{
-    let mut word = 0u64;
-    let mut i = from;
-    while i < end {
-        if used[i] {
-            let bit = 1u64 << (i % MARKS);
-            word = word | bit;
+fn word(marks: &[bool]) -> u64 {
+    let mut word = 0;
+    for (i, mark) in marks.iter().enumerate() {
+        if *mark {
+            word |= sets::single(i as u64);
         }
-        i += 1;
     }
     word
 }

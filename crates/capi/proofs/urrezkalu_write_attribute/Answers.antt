@@ -1,15 +1,17 @@
 -- `capi::urrezkalu_write_attribute` meets its contract. Assumes nothing.
-use mathlib.Core.Path.{refl}
+use mathlib.Core.Path.{refl, ◌∙◌}
 use borrow.Author.Tests.{le-leb, lt-leb}
+use Rattle.attribute.specs.Writer.{write_code}
 use Rattle.capi.specs.Interface.{bit_written, bit_buffer}
+use Rattle.capi.proofs.Answers.{by_code}
 use Rattle.capi.proofs.urrezkalu_write_attribute.Goals as goal
 
-pub returns-then-effective-le1 : goal.returns-then-effective-le1
+pub returns-then-effective-gt1 : goal.returns-then-effective-gt1
 unfolding bit_written bit_buffer
-returns-then-effective-le1 c =
-    let w = c.write-written.ensures in
-    rw (le-leb _ _ c.if-effective-le1.true, ← w.0) (c.joined.ensures, w.1)
+returns-then-effective-gt1 c = rw (lt-leb _ _ c.if-effective-gt1.true) (rw (← c.from.ensures) c.joined.ensures, refl)
 
 pub returns : goal.returns
 unfolding bit_written bit_buffer
-returns c = rw (lt-leb _ _ c.if-effective-le1.false) (c.joined-2.ensures, refl)
+returns c =
+    let w = c.write.ensures in
+    rw (le-leb _ _ c.if-effective-gt1.false, ← w.0) (c.answered.ensures ∙ by_code write_code c.write.result c.map_err.result c.map_err.ensures.cases, w.1)

@@ -1,19 +1,19 @@
 -- `capi::urrezkalu_write_sheet` meets its contract. Assumes nothing.
-use mathlib.Core.Path.{refl, sym, ◌∙◌}
-use Rattle.capi.specs.Interface.{values_written, values_buffer}
-use Rattle.capi.proofs.Answers.{fifteen}
+use mathlib.Core.Path.{sym, ap, ◌∙◌}
+use Rattle.format.specs.Sheet.{sheet_write_code}
+use Rattle.capi.specs.Interface.{answered}
+use Rattle.capi.proofs.Answers.{by_code, not_written, sheet_written}
 use Rattle.capi.proofs.urrezkalu_write_sheet.Goals as goal
 
-pub credentials_of-requires : goal.credentials_of-requires
-credentials_of-requires c = fifteen _ (sym c.are_values.ensures ∙ c.if-are_values.true)
-
-pub returns-then-are_values : goal.returns-then-are_values
-unfolding values_written values_buffer
-returns-then-are_values c =
-    let w = c.write_sheet-written.ensures in
-    let v = sym c.are_values.ensures ∙ c.if-are_values.true in
-    rw (v, ← c.credentials_of.ensures, ← w.0) (c.joined.ensures, w.1)
+pub returns-in_default : goal.returns-in_default
+returns-in_default c =
+    let n = not_written c.args.values.now c.args.sheet.now (sym c.credentials_of.ensures ∙ c.in_default.is) in
+    (c.joined.ensures ∙ n.0, n.1)
 
 pub returns : goal.returns
-unfolding values_written values_buffer
-returns c = rw (sym c.are_values.ensures ∙ c.if-are_values.false) (c.joined-2.ensures, refl)
+returns c =
+    let w = c.write_sheet.ensures in
+    let n = sheet_written c.args.values.now c.args.sheet.now _ (sym c.credentials_of.ensures ∙ c.in-Some.is) in (
+      c.answered.ensures ∙ by_code sheet_write_code c.write_sheet.result c.map_err.result c.map_err.ensures.cases ∙ ap (answered sheet_write_code) w.0 ∙ n.0,
+      w.1 ∙ n.1,
+    )

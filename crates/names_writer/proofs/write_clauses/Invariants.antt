@@ -1,20 +1,16 @@
--- `names_writer::write_clauses`: what its loops keep, and why they end.
+-- `names_writer::write_clauses`: what its loop keeps.
+use mathlib.Core.List.{map}
 use mathlib.Core.Path.{◌≡◌}
-use Prim.Native.Nat.{◌-◌, ◌+◌, ◌≤◌}
+use Prim.Native.Nat.{◌+◌}
 use lib.ListN.{length, drop}
 use lib.Seq.{sets}
-use Rattle.names.specs.Names.{capability_names}
 use Rattle.names.specs.Writing.{sets_text}
-use Rattle.names.specs.Inside.{flat, rows_from}
-use Rattle.names_writer.specs.Inside.{rows_text}
+use Rattle.names_writer.specs.Inside.{clauses_from}
 use Rattle.names_writer.proofs.write_clauses.Given as goal
 
-abbrev pub invariant-loop-row : goal.invariant-loop-row
-invariant-loop-row l = (sets l.buf l.at (rows_text l.at l.held (drop l.row (rows_from 0 capability_names))) ≡ sets l.initial.buf 0 (sets_text l.held))
-    × (drop l.p l.table ≡ flat (drop l.row (rows_from 0 capability_names)))
-    × (l.row ≤ 41)
-    × (l.at + length (rows_text l.at l.held (drop l.row (rows_from 0 capability_names))) ≡ length (sets_text l.held))
-    × (length l.buf ≡ length l.initial.buf)
-
-abbrev pub decreases-loop-row : goal.decreases-loop-row
-decreases-loop-row l = 41 - l.row
+abbrev pub invariant-loop-number : goal.invariant-loop-number
+invariant-loop-number l = record {
+  text : sets l.buf l.at (clauses_from l.at l.held l.number (map (λ x. x.now) (drop l.number l.name-items))) ≡ sets l.initial.buf 0 (sets_text l.held);
+  size : l.at + length (clauses_from l.at l.held l.number (map (λ x. x.now) (drop l.number l.name-items))) ≡ length (sets_text l.held);
+  buffer : length l.buf ≡ length l.initial.buf;
+}

@@ -1,32 +1,34 @@
 -- `sheet_reader::read_front` meets its contract. Assumes nothing.
-use mathlib.Core.Path.{◌∙◌}
+use Rattle.std.proofs.lemmas.Result.{err_from_is_err_and}
 use Rattle.format.specs.Sheet.{uid_kinds, gid_kinds}
-use Rattle.sheet_reader.proofs.Groups.{users_at_fault, groups_at_fault, sets_at_fault, front_at_fault, front_read}
+use Rattle.sheet_reader.proofs.Groups.{front_grouped}
 use Rattle.sheet_reader.proofs.read_front.Goals as goal
 
-pub returns-then-past_users : goal.returns-then-past_users
+pub returns-in_err-uids : goal.returns-in_err-uids
 unfolding uid_kinds
-returns-then-past_users c = users_at_fault _ _ _ _ (c.read_ids-users.ensures _) c.if-past_users.true
+returns-in_err-uids c =
+    let e = err_from_is_err_and c.from_residual.result c.from_residual.ensures.1 in
+    rw (e.1, e.2, front_grouped, c.in_err-uids.ensures c.args.table.now)
 
-pub returns-then-past_groups : goal.returns-then-past_groups
+pub returns-in_err-gids : goal.returns-in_err-gids
 unfolding uid_kinds gid_kinds
-returns-then-past_groups c =
-    groups_at_fault _ _ _ _ (c.read_ids-users.ensures _) _ _ (c.read_ids-groups.ensures _) c.if-past_groups.true
+returns-in_err-gids c =
+    let e = err_from_is_err_and c.from_residual-in_err-gids.result c.from_residual-in_err-gids.ensures.1 in
+    rw (e.1, e.2, front_grouped, c.in_ok-uids.ensures c.args.table.now, c.in_err-gids.ensures c.args.table.now)
 
-pub returns-then-past_sets : goal.returns-then-past_sets
+pub returns-in_err-sets : goal.returns-in_err-sets
 unfolding uid_kinds gid_kinds
-returns-then-past_sets c =
-    sets_at_fault _ _ _ _ (c.read_ids-users.ensures _) _ _ (c.read_ids-groups.ensures _) _ _ c.read_sets-held.ensures c.if-past_sets.true
+returns-in_err-sets c =
+    let e = err_from_is_err_and c.from_residual-in_err-sets.result c.from_residual-in_err-sets.ensures.1 in
+    rw (e.1, e.2, front_grouped, c.in_ok-uids.ensures c.args.table.now, c.in_ok-gids.ensures c.args.table.now, c.in_err-sets.ensures)
 
-pub returns-then-end : goal.returns-then-end
+pub returns-in_err-securebits : goal.returns-in_err-securebits
 unfolding uid_kinds gid_kinds
-returns-then-end c =
-    front_at_fault _ _ _ _ _ _ _ _ _ _ _ (c.read_ids-users.ensures _) (c.read_ids-groups.ensures _) c.read_sets-held.ensures c.read_flags-flags.ensures
-    c.if-end.true
+returns-in_err-securebits c =
+    let e = err_from_is_err_and c.from_residual-in_err-securebits.result c.from_residual-in_err-securebits.ensures.1 in
+    rw (e.1, e.2, front_grouped, c.in_ok-uids.ensures c.args.table.now, c.in_ok-gids.ensures c.args.table.now, c.in_ok-sets.ensures, c.in_err-securebits.ensures)
 
 pub returns : goal.returns
 unfolding uid_kinds gid_kinds
 returns c =
-    c.judged.ensures
-    ∙ front_read _ _ _ _ _ _ _ _ _ _ _ (c.read_ids-users.ensures _) (c.read_ids-groups.ensures _) c.read_sets-held.ensures c.read_flags-flags.ensures
-    c.if-end.false
+    rw (c.is_valid.ensures, front_grouped, c.in_ok-uids.ensures c.args.table.now, c.in_ok-gids.ensures c.args.table.now, c.in_ok-sets.ensures, c.in_ok-securebits.ensures)

@@ -8,4 +8,4 @@ pub returns : goal.returns
 unfolding lines_put flag_kinds
 returns c =
     let nnp = c.args.nnp in
-    rw (← c.write_hex-p.ensures.0, ← c.write_hex-p.ensures.1, ← (cast_is_number nnp)) c.write_decimal.ensures
+    rw (← c.write_hex-at.ensures.0, ← c.write_hex-at.ensures.1, ← (cast_is_number nnp), ← c.from.ensures) c.write_decimal.ensures

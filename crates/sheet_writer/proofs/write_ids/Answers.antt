@@ -6,4 +6,4 @@ use Rattle.sheet_writer.proofs.write_ids.Goals as goal
 pub returns : goal.returns
 unfolding lines_put id_kinds
 returns c =
-    λ table. rw (← c.write_decimal-p.ensures.0, ← c.write_decimal-p.ensures.1, ← c.write_decimal-q.ensures.0, ← c.write_decimal-q.ensures.1, ← c.write_decimal-u.ensures.0, ← c.write_decimal-u.ensures.1) c.write_decimal.ensures
+    λ table. rw (← c.write_decimal-at.ensures.0, ← c.write_decimal-at.ensures.1, ← c.write_decimal-at-2.ensures.0, ← c.write_decimal-at-2.ensures.1, ← c.write_decimal-at-3.ensures.0, ← c.write_decimal-at-3.ensures.1) c.write_decimal.ensures

@@ -6,4 +6,4 @@ use Rattle.sheet_writer.proofs.write_lines.Goals as goal
 pub returns : goal.returns
 unfolding uid_kinds gid_kinds
 returns c =
-    sheet_put _ _ _ _ _ _ _ _ _ _ _ _ (c.write_ids-p.ensures _) (c.write_ids-q.ensures _) c.write_sets-u.ensures c.write_flags.ensures
+    sheet_put _ _ _ _ _ _ _ _ _ _ _ _ (c.write_ids-at.ensures _) (c.write_ids-at-2.ensures _) c.write_sets-at.ensures c.write_flags.ensures

@@ -6,4 +6,4 @@ use Rattle.sheet_writer.proofs.write_sets.Goals as goal
 pub returns : goal.returns
 unfolding lines_put set_kinds
 returns c =
-    rw (← c.write_hex-p.ensures.0, ← c.write_hex-p.ensures.1, ← c.write_hex-q.ensures.0, ← c.write_hex-q.ensures.1, ← c.write_hex-u.ensures.0, ← c.write_hex-u.ensures.1, ← c.write_hex-v.ensures.0, ← c.write_hex-v.ensures.1) c.write_hex.ensures
+    rw (← c.write_hex-at.ensures.0, ← c.write_hex-at.ensures.1, ← c.write_hex-at-2.ensures.0, ← c.write_hex-at-2.ensures.1, ← c.write_hex-at-3.ensures.0, ← c.write_hex-at-3.ensures.1, ← c.write_hex-at-4.ensures.0, ← c.write_hex-at-4.ensures.1) c.write_hex.ensures

@@ -1,15 +1,15 @@
 -- `status_comparison::compare` meets its contract. Assumes nothing.
-use mathlib.Core.Path.{refl, sym, ◌∙◌}
-use Rattle.status_comparison.proofs.Laws.{compared_fault, compared_found}
+use Rattle.std.proofs.lemmas.Result.{err_from_is_err_and}
+use Rattle.status_comparison.proofs.Laws.{not_read, compared_found}
 use Rattle.status_comparison.proofs.compare.Goals as goal
 
-pub returns-in-Malformed : goal.returns-in-Malformed
-returns-in-Malformed c =
+pub returns-in_err-found : goal.returns-in_err-found
+returns-in_err-found c =
     let a = c.args in
-    rw (compared_fault a.status.now a.predicted c.in-Malformed.line (sym c.read_status.ensures ∙ c.in-Malformed.is)) (refl, refl)
+    let p = err_from_is_err_and c.from_residual.result c.from_residual.ensures.1 in
+    rw (p.1, p.2) (not_read a.status.now a.predicted c.in_err-found.field-0.0 a.list.now c.in_err-found.ensures)
 
-pub returns-in-Shows : goal.returns-in-Shows
-returns-in-Shows c =
+pub returns : goal.returns
+returns c =
     let a = c.args in
-    let e = sym c.read_status.ensures ∙ c.in-Shows.is in
-    rw (compared_found a.status.now a.predicted c.in-Shows.found e) c.lay_beside.ensures
+    rw (compared_found a.status.now a.predicted c.in_ok-found.found c.in_ok-found.ensures) at c.lay_beside.ensures

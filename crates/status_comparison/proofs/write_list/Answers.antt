@@ -1,34 +1,47 @@
 -- `status_comparison::write_list` meets its contract. Assumes nothing.
+use mathlib.Core.Path.{ap}
+use Prim.Native.Nat.{◌+◌, ◌≤◌}
 use native.Mathlib.Omega.{arith}
-use Rattle.rules.proofs.Flags.{cast_is_number}
+use lib.ListN.{length, take, length-append}
 use Rattle.status.specs.Comparing.{last_line}
-use Rattle.status_comparison.proofs.Laws.{list_lines, list_length, put_then, put_text}
+use Rattle.status_comparison.specs.Lines.{line_text, lines_text}
+use Rattle.status_comparison.proofs.Laws.{lines_more, all_lines, part_fits, put_nothing, put_then, put_text}
 use Rattle.status_comparison.proofs.write_list.Goals as goal
 
-pub write_ids-p-requires : goal.write_ids-p-requires
-write_ids-p-requires c =
-    let a = c.args in
-    omega (arith, list_length a.predicted a.found)
+pub loop-line-init : goal.loop-line-init
+unfolding lines_text
+loop-line-init c = put_nothing c.args.list.now 0
 
-pub write_sets-q-requires : goal.write_sets-q-requires
-write_sets-q-requires c =
-    (omega (arith, list_length c.args.predicted c.args.found), c.requires.1)
+pub write-at-requires : goal.write-at-requires
+write-at-requires c =
+    let l = c.loop-line in
+    let x = c.line-item in
+    let t = c.args.lines.now in
+    let more = ap length (lines_more t l.line-index x.result (omega arith) x.is) in (
+      omega (
+        arith,
+        c.requires,
+        l.invariant.position,
+        l.auto.list,
+        more,
+        length-append (lines_text (take l.line-index t)) (line_text x.result),
+        part_fits t (l.line-index + 1),
+        length-append (lines_text t) last_line,
+      ),
+      c.writing_table-table.ensures,
+    )
 
-pub write_id-u-requires : goal.write_id-u-requires
-write_id-u-requires c =
-    let a = c.args in
-    rw (cast_is_number a.predicted.nnp, cast_is_number a.found.nnp) (omega (arith, list_length a.predicted a.found))
+pub loop-line-preserved : goal.loop-line-preserved
+loop-line-preserved c =
+    let l = c.loop-line in
+    let x = c.line-item in
+    rw (lines_more c.args.lines.now l.line-index x.result (omega arith) x.is) (put_then l.invariant c.write-at.ensures)
 
 pub returns : goal.returns
 unfolding last_line
 returns c =
-    let a = c.args in
-    let ids = c.write_ids-p in
-    let sets = c.write_sets-q in
-    let nnp = c.write_id-u in
-    let line = rw (cast_is_number a.predicted.nnp, cast_is_number a.found.nnp) at nnp.ensures in
-    rw (list_lines a.predicted a.found)
-    (put_then ids.ensures
-    (put_then sets.ensures
-    (put_then line
-    (put_text nnp.new.list _ nnp.result _ last_line (omega (arith, list_length a.predicted a.found, c.requires.0, ids.ensures.position, ids.auto.list, sets.ensures.position, sets.auto.list)) c.write_bytes.ensures))))
+    let l = c.loop-line in
+    let t = c.args.lines.now in
+    let all = all_lines t l.line-index (omega arith) in
+    let fits : l.at + length last_line ≤ length l.list = omega (arith, c.requires, l.invariant.position, l.auto.list, ap length all, length-append (lines_text t) last_line) in
+    rw all at (put_then l.invariant (put_text l.list _ l.at _ last_line fits c.write_bytes.ensures)).buffer

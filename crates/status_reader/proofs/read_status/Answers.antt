@@ -1,60 +1,105 @@
 -- `status_reader::read_status` meets its contract. Assumes nothing.
 use mathlib.Core.Path.{sym, ◌∙◌}
-use mathlib.Core.List.{[]}
-use mathlib.Core.Bool.{false}
-use Rattle.status_reader.specs.declared.places.Place.{Place}
-use Rattle.status_reader.proofs.PlaceLaws.{answered, seven, after_fault, no_fault, fault_further, all_read}
+use borrow.Author.Rules.{rules}
+use Rattle.std.proofs.lemmas.Result.{err_from_is_err_and}
+use Rattle.format.specs.Sheet.{id_values}
+use Rattle.status.specs.Lines.{entries, ids_entry, set_entry, flag_entry}
+use Rattle.status_reader.specs.Inside.{one}
+use Rattle.status_reader.proofs.PlaceLaws.{reached, reached_more, reached_fault, reached_further, reached_end}
 use Rattle.status_reader.proofs.read_status.Goals as goal
 
-abbrev start : Place
-start = record { at = 0; lines = 0; fault = false }
+pub returns-in_err-uids : goal.returns-in_err-uids
+unfolding entries
+returns-in_err-uids c =
+    let p = err_from_is_err_and c.from_residual.result c.from_residual.ensures.1 in
+    let r0 = reached c.args.text.now c.start-place.result.rest.now c.start-place.result.passed c.start-place.ensures.0 c.start-place.ensures.1 in
+    rw (p.1, p.2) (reached_fault ids_entry r0 id_values c.in_err-uids.field-0.0 _ _ (c.in_err-uids.ensures ids_entry id_values (λ l r k. rw (← k.shows) (search rules)) _))
 
-pub read_set-ambient-requires : goal.read_set-ambient-requires
-read_set-ambient-requires c = (c.reading_table-table.ensures, c.read_set-bounding.ensures.1)
+pub returns-in_err-inheritable : goal.returns-in_err-inheritable
+unfolding entries
+returns-in_err-inheritable c =
+    let p = err_from_is_err_and c.from_residual-in_err-inheritable.result c.from_residual-in_err-inheritable.ensures.1 in
+    let r0 = reached c.args.text.now c.start-place.result.rest.now c.start-place.result.passed c.start-place.ensures.0 c.start-place.ensures.1 in
+    let r1 = reached_more ids_entry r0 (id_values c.in_ok-uids.uids) _ _ (c.in_ok-uids.ensures ids_entry id_values (λ l r k. rw (← k.shows) (search rules)) _) in
+    rw (p.1, p.2) (reached_fault (set_entry "CapInh:") r1 one c.in_err-inheritable.field-0.0 _ _ (c.in_err-inheritable.ensures _))
 
-pub read_flag-nnp-requires : goal.read_flag-nnp-requires
-read_flag-nnp-requires c = (c.reading_table-table.ensures, c.read_set-ambient.ensures.1)
+pub returns-in_err-permitted : goal.returns-in_err-permitted
+unfolding entries
+returns-in_err-permitted c =
+    let p = err_from_is_err_and c.from_residual-in_err-permitted.result c.from_residual-in_err-permitted.ensures.1 in
+    let r0 = reached c.args.text.now c.start-place.result.rest.now c.start-place.result.passed c.start-place.ensures.0 c.start-place.ensures.1 in
+    let r1 = reached_more ids_entry r0 (id_values c.in_ok-uids.uids) _ _ (c.in_ok-uids.ensures ids_entry id_values (λ l r k. rw (← k.shows) (search rules)) _) in
+    let r2 = reached_more (set_entry "CapInh:") r1 (one c.in_ok-inheritable.inheritable) _ _ (c.in_ok-inheritable.ensures _) in
+    rw (p.1, p.2) (reached_fault (set_entry "CapPrm:") r2 one c.in_err-permitted.field-0.0 _ _ (c.in_err-permitted.ensures _))
 
-pub returns-then-end : goal.returns-then-end
-returns-then-end c =
-    let t = c.args.text.now in
-    let u = c.read_ids-users in
-    let i = c.read_set-inheritable in
-    let p = c.read_set-permitted in
-    let e = c.read_set-effective in
-    let b = c.read_set-bounding in
-    let a = c.read_set-ambient in
-    let f = c.read_flag-nnp in
-    let all = seven t start u.result.place i.result.place p.result.place e.result.place b.result.place a.result.place f.result.place u.result.ids i.result.value p.result.value e.result.value b.result.value a.result.value f.result.value u.ensures.0 i.ensures.0 p.ensures.0 e.ensures.0 b.ensures.0 a.ensures.0 f.ensures.0 in
-    sym (answered t _ _ _ all (after_fault t f.result.place [] c.if-end.true))
+pub returns-in_err-effective : goal.returns-in_err-effective
+unfolding entries
+returns-in_err-effective c =
+    let p = err_from_is_err_and c.from_residual-in_err-effective.result c.from_residual-in_err-effective.ensures.1 in
+    let r0 = reached c.args.text.now c.start-place.result.rest.now c.start-place.result.passed c.start-place.ensures.0 c.start-place.ensures.1 in
+    let r1 = reached_more ids_entry r0 (id_values c.in_ok-uids.uids) _ _ (c.in_ok-uids.ensures ids_entry id_values (λ l r k. rw (← k.shows) (search rules)) _) in
+    let r2 = reached_more (set_entry "CapInh:") r1 (one c.in_ok-inheritable.inheritable) _ _ (c.in_ok-inheritable.ensures _) in
+    let r3 = reached_more (set_entry "CapPrm:") r2 (one c.in_ok-permitted.permitted) _ _ (c.in_ok-permitted.ensures _) in
+    rw (p.1, p.2) (reached_fault (set_entry "CapEff:") r3 one c.in_err-effective.field-0.0 _ _ (c.in_err-effective.ensures _))
 
-pub wanted_line-further-requires : goal.wanted_line-further-requires
-wanted_line-further-requires c = let g = c.read_flag-nnp.ensures.1 in (g.within c.if-end.false, g.lines c.if-end.false)
+pub returns-in_err-bounding : goal.returns-in_err-bounding
+unfolding entries
+returns-in_err-bounding c =
+    let p = err_from_is_err_and c.from_residual-in_err-bounding.result c.from_residual-in_err-bounding.ensures.1 in
+    let r0 = reached c.args.text.now c.start-place.result.rest.now c.start-place.result.passed c.start-place.ensures.0 c.start-place.ensures.1 in
+    let r1 = reached_more ids_entry r0 (id_values c.in_ok-uids.uids) _ _ (c.in_ok-uids.ensures ids_entry id_values (λ l r k. rw (← k.shows) (search rules)) _) in
+    let r2 = reached_more (set_entry "CapInh:") r1 (one c.in_ok-inheritable.inheritable) _ _ (c.in_ok-inheritable.ensures _) in
+    let r3 = reached_more (set_entry "CapPrm:") r2 (one c.in_ok-permitted.permitted) _ _ (c.in_ok-permitted.ensures _) in
+    let r4 = reached_more (set_entry "CapEff:") r3 (one c.in_ok-effective.effective) _ _ (c.in_ok-effective.ensures _) in
+    rw (p.1, p.2) (reached_fault (set_entry "CapBnd:") r4 one c.in_err-bounding.field-0.0 _ _ (c.in_err-bounding.ensures _))
 
-pub returns-then-further-text : goal.returns-then-further-text
-returns-then-further-text c =
-    let t = c.args.text.now in
-    let u = c.read_ids-users in
-    let i = c.read_set-inheritable in
-    let p = c.read_set-permitted in
-    let e = c.read_set-effective in
-    let b = c.read_set-bounding in
-    let a = c.read_set-ambient in
-    let f = c.read_flag-nnp in
-    let all = seven t start u.result.place i.result.place p.result.place e.result.place b.result.place a.result.place f.result.place u.result.ids i.result.value p.result.value e.result.value b.result.value a.result.value f.result.value u.ensures.0 i.ensures.0 p.ensures.0 e.ensures.0 b.ensures.0 a.ensures.0 f.ensures.0 in
-    let w = c.wanted_line-further in
-    sym (answered t _ _ _ all (no_fault t f.result.place [] c.if-end.false ∙ w.ensures.0 [] ∙ fault_further t w.result c.if-further-text.true))
+pub returns-in_err-ambient : goal.returns-in_err-ambient
+unfolding entries
+returns-in_err-ambient c =
+    let p = err_from_is_err_and c.from_residual-in_err-ambient.result c.from_residual-in_err-ambient.ensures.1 in
+    let r0 = reached c.args.text.now c.start-place.result.rest.now c.start-place.result.passed c.start-place.ensures.0 c.start-place.ensures.1 in
+    let r1 = reached_more ids_entry r0 (id_values c.in_ok-uids.uids) _ _ (c.in_ok-uids.ensures ids_entry id_values (λ l r k. rw (← k.shows) (search rules)) _) in
+    let r2 = reached_more (set_entry "CapInh:") r1 (one c.in_ok-inheritable.inheritable) _ _ (c.in_ok-inheritable.ensures _) in
+    let r3 = reached_more (set_entry "CapPrm:") r2 (one c.in_ok-permitted.permitted) _ _ (c.in_ok-permitted.ensures _) in
+    let r4 = reached_more (set_entry "CapEff:") r3 (one c.in_ok-effective.effective) _ _ (c.in_ok-effective.ensures _) in
+    let r5 = reached_more (set_entry "CapBnd:") r4 (one c.in_ok-bounding.bounding) _ _ (c.in_ok-bounding.ensures _) in
+    rw (p.1, p.2) (reached_fault (set_entry "CapAmb:") r5 one c.in_err-ambient.field-0.0 _ _ (c.in_err-ambient.ensures _))
+
+pub returns-in_err-nnp : goal.returns-in_err-nnp
+unfolding entries
+returns-in_err-nnp c =
+    let p = err_from_is_err_and c.from_residual-in_err-nnp.result c.from_residual-in_err-nnp.ensures.1 in
+    let r0 = reached c.args.text.now c.start-place.result.rest.now c.start-place.result.passed c.start-place.ensures.0 c.start-place.ensures.1 in
+    let r1 = reached_more ids_entry r0 (id_values c.in_ok-uids.uids) _ _ (c.in_ok-uids.ensures ids_entry id_values (λ l r k. rw (← k.shows) (search rules)) _) in
+    let r2 = reached_more (set_entry "CapInh:") r1 (one c.in_ok-inheritable.inheritable) _ _ (c.in_ok-inheritable.ensures _) in
+    let r3 = reached_more (set_entry "CapPrm:") r2 (one c.in_ok-permitted.permitted) _ _ (c.in_ok-permitted.ensures _) in
+    let r4 = reached_more (set_entry "CapEff:") r3 (one c.in_ok-effective.effective) _ _ (c.in_ok-effective.ensures _) in
+    let r5 = reached_more (set_entry "CapBnd:") r4 (one c.in_ok-bounding.bounding) _ _ (c.in_ok-bounding.ensures _) in
+    let r6 = reached_more (set_entry "CapAmb:") r5 (one c.in_ok-ambient.ambient) _ _ (c.in_ok-ambient.ensures _) in
+    rw (p.1, p.2) (reached_fault flag_entry r6 one c.in_err-nnp.field-0.0 _ _ (c.in_err-nnp.ensures flag_entry one (λ l r k. rw (← k.shows) (search rules)) _))
+
+pub returns-then-is_some : goal.returns-then-is_some
+unfolding entries
+returns-then-is_some c =
+    let r0 = reached c.args.text.now c.start-place.result.rest.now c.start-place.result.passed c.start-place.ensures.0 c.start-place.ensures.1 in
+    let r1 = reached_more ids_entry r0 (id_values c.in_ok-uids.uids) _ _ (c.in_ok-uids.ensures ids_entry id_values (λ l r k. rw (← k.shows) (search rules)) _) in
+    let r2 = reached_more (set_entry "CapInh:") r1 (one c.in_ok-inheritable.inheritable) _ _ (c.in_ok-inheritable.ensures _) in
+    let r3 = reached_more (set_entry "CapPrm:") r2 (one c.in_ok-permitted.permitted) _ _ (c.in_ok-permitted.ensures _) in
+    let r4 = reached_more (set_entry "CapEff:") r3 (one c.in_ok-effective.effective) _ _ (c.in_ok-effective.ensures _) in
+    let r5 = reached_more (set_entry "CapBnd:") r4 (one c.in_ok-bounding.bounding) _ _ (c.in_ok-bounding.ensures _) in
+    let r6 = reached_more (set_entry "CapAmb:") r5 (one c.in_ok-ambient.ambient) _ _ (c.in_ok-ambient.ensures _) in
+    let r7 = reached_more flag_entry r6 (one c.in_ok-nnp.nnp) _ _ (c.in_ok-nnp.ensures flag_entry one (λ l r k. rw (← k.shows) (search rules)) _) in
+    reached_further _ _ c.next_wanted.result r7 c.next_wanted.ensures (sym c.is_some.ensures ∙ c.if-is_some.true)
 
 pub returns : goal.returns
+unfolding entries
 returns c =
-    let t = c.args.text.now in
-    let u = c.read_ids-users in
-    let i = c.read_set-inheritable in
-    let p = c.read_set-permitted in
-    let e = c.read_set-effective in
-    let b = c.read_set-bounding in
-    let a = c.read_set-ambient in
-    let f = c.read_flag-nnp in
-    let all = seven t start u.result.place i.result.place p.result.place e.result.place b.result.place a.result.place f.result.place u.result.ids i.result.value p.result.value e.result.value b.result.value a.result.value f.result.value u.ensures.0 i.ensures.0 p.ensures.0 e.ensures.0 b.ensures.0 a.ensures.0 f.ensures.0 in
-    let w = c.wanted_line-further in
-    sym (answered t _ _ _ all (no_fault t f.result.place [] c.if-end.false ∙ w.ensures.0 [] ∙ all_read t w.result c.if-further-text.false))
+    let r0 = reached c.args.text.now c.start-place.result.rest.now c.start-place.result.passed c.start-place.ensures.0 c.start-place.ensures.1 in
+    let r1 = reached_more ids_entry r0 (id_values c.in_ok-uids.uids) _ _ (c.in_ok-uids.ensures ids_entry id_values (λ l r k. rw (← k.shows) (search rules)) _) in
+    let r2 = reached_more (set_entry "CapInh:") r1 (one c.in_ok-inheritable.inheritable) _ _ (c.in_ok-inheritable.ensures _) in
+    let r3 = reached_more (set_entry "CapPrm:") r2 (one c.in_ok-permitted.permitted) _ _ (c.in_ok-permitted.ensures _) in
+    let r4 = reached_more (set_entry "CapEff:") r3 (one c.in_ok-effective.effective) _ _ (c.in_ok-effective.ensures _) in
+    let r5 = reached_more (set_entry "CapBnd:") r4 (one c.in_ok-bounding.bounding) _ _ (c.in_ok-bounding.ensures _) in
+    let r6 = reached_more (set_entry "CapAmb:") r5 (one c.in_ok-ambient.ambient) _ _ (c.in_ok-ambient.ensures _) in
+    let r7 = reached_more flag_entry r6 (one c.in_ok-nnp.nnp) _ _ (c.in_ok-nnp.ensures flag_entry one (λ l r k. rw (← k.shows) (search rules)) _) in
+    reached_end _ _ c.next_wanted.result r7 c.next_wanted.ensures (sym c.is_some.ensures ∙ c.if-is_some.false)

@@ -1,11 +1,10 @@
 -- `attribute::reader::read` meets its contract. Assumes nothing.
 use Rattle.attribute.specs.Reader.{reading}
-use borrow.Author.Tests.{eq-eqb, ne_eqb}
 use Rattle.attribute.proofs.reader.read.Goals as goal
 
-pub returns-then-bytes-eq0 : goal.returns-then-bytes-eq0
+pub returns-then-is_empty : goal.returns-then-is_empty
 unfolding reading
-returns-then-bytes-eq0 c = simp (eq-eqb _ _ c.if-bytes-eq0.true)
+returns-then-is_empty c = simp (c.if-is_empty.true, ← c.is_empty.ensures)
 
 pub returns-then-is_unreadable : goal.returns-then-is_unreadable
 unfolding reading
@@ -13,7 +12,8 @@ returns-then-is_unreadable c =
     simp (
       c.if-is_unreadable.true,
       ← c.is_unreadable.ensures,
-      ne_eqb _ _ c.if-bytes-eq0.false,
+      c.if-is_empty.false,
+      ← c.is_empty.ensures,
     )
 
 pub returns : goal.returns
@@ -23,5 +23,6 @@ returns c =
       ← c.file_of.ensures,
       c.if-is_unreadable.false,
       ← c.is_unreadable.ensures,
-      ne_eqb _ _ c.if-bytes-eq0.false,
+      c.if-is_empty.false,
+      ← c.is_empty.ensures,
     )

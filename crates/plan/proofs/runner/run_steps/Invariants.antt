@@ -1,13 +1,18 @@
--- `plan::runner::run_steps`: what its loops keep, and why they end.
+-- `plan::runner::run_steps`: what its loop keeps, and why it ends.
 use mathlib.Core.Path.{◌≡◌}
-use Prim.Native.Nat.{◌≤◌, ◌-◌}
-use lib.ListN.{length, take, drop}
-use Rattle.plan.specs.Inside.{ran_steps}
+use Prim.Native.Nat.{◌≤◌, ◌+◌, ◌-◌, ◌*◌}
+use lib.ListN.{length, drop}
+use Rattle.format.specs.Line.{below}
+use Rattle.plan.specs.Inside.{ran_by}
 use Rattle.plan.proofs.RunLaws.{grown}
 use Rattle.plan.proofs.runner.run_steps.Given as goal
 
-abbrev pub invariant-loop-at : goal.invariant-loop-at
-invariant-loop-at l = (ran_steps 256 l.initial.held (drop l.first l.text) ≡ grown 5 (take l.count l.codes) (take l.count l.values) (take l.count l.causes) (ran_steps (256 - l.count) l.held (drop l.at l.text))) × (l.count ≤ 256) × (length l.codes ≡ 256) × (length l.values ≡ 256) × (length l.causes ≡ 256)
+abbrev pub invariant-loop-place : goal.invariant-loop-place
+invariant-loop-place g l =
+    let k = g.S.State.kind in
+    (below l.fn.first.lines (ran_by k 256 l.initial.state (drop l.fn.first.at l.text)) ≡ grown l.place.lines l.answers.items (ran_by k (256 - length l.answers.items) l.state (drop l.place.at l.text)))
+    × (length l.answers.items ≤ 256)
+    × (l.place.lines ≤ 15 + 6 * length l.answers.items)
 
-abbrev pub decreases-loop-at : goal.decreases-loop-at
-decreases-loop-at l = 256 - l.count
+abbrev pub decreases-loop-place : goal.decreases-loop-place
+decreases-loop-place g l = 256 - length l.answers.items

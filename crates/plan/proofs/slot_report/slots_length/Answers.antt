@@ -7,35 +7,26 @@ use Rattle.slot_format.specs.SlotReport.{slot_text, slots_text}
 use Rattle.threads.specs.Table.{held}
 use Rattle.plan.proofs.SlotLaws.{slots_used, slots_free, slots_none}
 use Rattle.plan.proofs.slot_report.slots_length.Goals as goal
+use Rattle.plan.proofs.slot_report.slots_length.Goals.{then-used, else-used}
 
-pub loop-i-init : goal.loop-i-init
-loop-i-init c = (omega arith, omega arith, omega arith)
-
-pub overflow_add-n : goal.overflow_add-n
-overflow_add-n c =
-    let l = c.loop-i in
-    record { fits = omega (arith, l.invariant.1, l.invariant.2, c.slot_length-n.ensures.1) }
-
-pub loop-i-preserved-then-mark : goal.loop-i-preserved-then-mark
-loop-i-preserved-then-mark c =
-    let l = c.loop-i in
-    let t = c.args.table in
-    let h = c.loop-i-test.true in
-    let one = slots_used t l.i (96 - l.i) (96 - (l.i + 1)) (omega (arith, h)) c.if-mark.true in
-    let size = ap length one ∙ length-append (slot_text l.i (held t l.i)) (slots_text t (l.i + 1) (96 - (l.i + 1))) in
-    (omega (arith, l.invariant.0, size, c.slot_length-n.ensures.0), omega (arith, h), omega (arith, l.invariant.2, c.slot_length-n.ensures.1))
-
-pub loop-i-preserved : goal.loop-i-preserved
-loop-i-preserved c =
-    let l = c.loop-i in
-    let t = c.args.table in
-    let h = c.loop-i-test.true in
-    let one = slots_free t l.i (96 - l.i) (96 - (l.i + 1)) (omega (arith, h)) c.if-mark.false in
-    (omega (arith, l.invariant.0, ap length one), omega (arith, h), omega (arith, l.invariant.2))
+pub loop-slot-preserved : goal.loop-slot-preserved
+loop-slot-preserved c =
+    let l = c.loop-slot in
+    let t = c.args.table.now in
+    let h = c.loop-slot-test.true in
+    let left = 96 - (l.slot + 1) in
+    elim c.if-used.branch [
+      | then-used w ↦
+          let one = slots_used t l.slot (96 - l.slot) left (omega (arith, h)) w.if-used.true in
+          let size = ap length one ∙ length-append (slot_text l.slot (held t l.slot)) (slots_text t (l.slot + 1) left) in
+          (omega (arith, l.invariant.0, size, w.slot_length-n.ensures.0, w.n-is), omega (arith, l.invariant.1, w.slot_length-n.ensures.1, w.n-is))
+      | else-used w ↦
+          let one = slots_free t l.slot (96 - l.slot) left (omega (arith, h)) w.if-used.false in
+          (omega (arith, l.invariant.0, ap length one, w.n-is), omega (arith, l.invariant.1, w.n-is))
+    ]
 
 pub returns : goal.returns
 returns c =
-    let l = c.loop-i in
-    let t = c.args.table in
-    let none = ap length (slots_none t l.i (96 - l.i) (omega (arith, c.loop-i-test.false))) in
-    (omega (arith, l.invariant.0, none), omega (arith, l.invariant.1, l.invariant.2))
+    let l = c.loop-slot in
+    let none = ap length (slots_none c.args.table.now l.slot (96 - l.slot) (omega (arith, c.loop-slot-test.false))) in
+    (omega (arith, l.invariant.0, none), omega (arith, l.invariant.1, l.auto.slot-end))

@@ -1,7 +1,12 @@
 -- `plan::slot_step::turn_of` meets its contract. Assumes nothing.
-use mathlib.Core.Path.{◌∙◌}
-use native.Mathlib.Nat.{sub-zero}
+use mathlib.Core.Path.{sym, subst}
+use Prim.Native.Nat.{◌<◌}
+use Rattle.slots.specs.declared.turn.Turn.{Turn}
+use Rattle.slots.proofs.Turns.{turns_stored}
 use Rattle.plan.proofs.slot_step.turn_of.Goals as goal
 
+-- the slot that the turn is stored in is one of the 96
 pub returns : goal.returns
-returns c = c.take_turn.ensures ∙ rw sub-zero
+returns c =
+    let turn = rw c.as_slice.ensures at c.take_turn.ensures in
+    (turn, subst (λ (t : Turn). t.to < 96) (sym turn) (turns_stored.within _ _ _ _))

@@ -1,23 +1,28 @@
 -- `status_reader::lines::is_wanted` meets its contract. Assumes nothing.
-use mathlib.Core.Path.{sym}
+use mathlib.Core.Path.{sym, ◌∙◌}
 use native.Mathlib.Omega.{arith}
-use Rattle.status_reader.proofs.LineLaws.{empty_line, wanted_set, wanted_ids, wanted_flag, wanted_other}
+use Rattle.status_reader.proofs.LineLaws.{wanted_set, wanted_ids, wanted_flag, wanted_other, empty_line}
 use Rattle.status_reader.proofs.lines.is_wanted.Goals as goal
 
-pub returns-then-line-eq0 : goal.returns-then-line-eq0
-returns-then-line-eq0 c = sym (empty_line c.args.line.now (omega arith))
+pub returns-in_default : goal.returns-in_default
+returns-in_default c = sym (empty_line c.args.line.now (rw c.in_default.is at c.first.ensures.value))
 
-pub returns-then-b-eq67 : goal.returns-then-b-eq67
-returns-then-b-eq67 c =
-    let t = c.args.line.now in
-    rw (c.starts_with-ambient.ensures, c.starts_with-bounding.ensures, c.starts_with-effective.ensures, c.starts_with-permitted.ensures, c.starts_with-inheritable.ensures)
-    (sym (wanted_set t (omega arith) c.if-b-eq67.true))
+pub returns-in-67 : goal.returns-in-67
+returns-in-67 c =
+    let b = c.in-Some in
+    c.is_set_line.ensures ∙ sym (wanted_set c.args.line.now b.first.now b.ensures.value c.in-67.is)
 
-pub returns-then-b-eq85 : goal.returns-then-b-eq85
-returns-then-b-eq85 c = rw c.starts_with.ensures (sym (wanted_ids c.args.line.now (omega arith) c.if-b-eq85.true))
+pub returns-in-85 : goal.returns-in-85
+returns-in-85 c =
+    let b = c.in-Some in
+    c.begins_with.ensures ∙ sym (wanted_ids c.args.line.now b.first.now b.ensures.value c.in-85.is)
 
-pub returns-then-b-eq78 : goal.returns-then-b-eq78
-returns-then-b-eq78 c = rw c.starts_with-then-b-eq78.ensures (sym (wanted_flag c.args.line.now (omega arith) c.if-b-eq78.true))
+pub returns-in-78 : goal.returns-in-78
+returns-in-78 c =
+    let b = c.in-Some in
+    c.begins_with-in-78.ensures ∙ sym (wanted_flag c.args.line.now b.first.now b.ensures.value c.in-78.is)
 
-pub returns : goal.returns
-returns c = sym (wanted_other c.args.line.now (omega arith) c.if-b-eq67.false c.if-b-eq85.false c.if-b-eq78.false)
+pub returns-in_default-first : goal.returns-in_default-first
+returns-in_default-first c =
+    let b = c.in-Some in
+    sym (wanted_other c.args.line.now b.first.now b.ensures.value (λ e. omega arith) (λ e. omega arith) (λ e. omega arith))

@@ -1,29 +1,16 @@
 -- `status_reader::lines::values_of` meets its contract. Assumes nothing.
-use mathlib.Core.Path.{sym, ◌∙◌}
-use native.Mathlib.Omega.{arith}
-use Rattle.status_reader.proofs.LineLaws.{name_missing, name_alone, name_tab, name_other}
+use Rattle.status_reader.proofs.LineLaws.{by_option, name_missing, tab_missing, tab_there}
 use Rattle.status_reader.proofs.lines.values_of.Goals as goal
 
-pub returns-then-line-n-eq-TAB : goal.returns-then-line-n-eq-TAB
-returns-then-line-n-eq-TAB c =
-    let a = c.args in
-    let h = sym c.starts_with.ensures ∙ c.if-starts_with.true in
-    ((λ f fs. sym (name_tab a.line.now f fs a.name.now h (omega arith) c.if-line-n-eq-TAB.true)), omega arith)
+pub returns-in_err-strip_prefix : goal.returns-in_err-strip_prefix
+returns-in_err-strip_prefix c =
+    rw c.from_residual.ensures (λ f fs. name_missing c.args.line.now c.args.name.now f fs c.in_err-strip_prefix.ensures.cases)
 
-pub returns-else-line-n-eq-TAB : goal.returns-else-line-n-eq-TAB
-returns-else-line-n-eq-TAB c =
+pub returns : goal.returns
+returns c =
     let a = c.args in
-    let h = sym c.starts_with.ensures ∙ c.if-starts_with.true in
-    ((λ f fs. sym (name_other a.line.now f fs a.name.now h (omega arith) c.if-line-n-eq-TAB.false)), tt)
-
-pub returns-else-n-line : goal.returns-else-n-line
-returns-else-n-line c =
-    let a = c.args in
-    let h = sym c.starts_with.ensures ∙ c.if-starts_with.true in
-    ((λ f fs. sym (name_alone a.line.now f fs a.name.now h (omega arith))), tt)
-
-pub returns-else-starts_with : goal.returns-else-starts_with
-returns-else-starts_with c =
-    let a = c.args in
-    let h = sym c.starts_with.ensures ∙ c.if-starts_with.false in
-    ((λ f fs. sym (name_missing a.line.now f fs a.name.now h)), tt)
+    let e = c.in_ok-strip_prefix.ensures.cases in
+    by_option c.strip_prefix-2.result
+    (λ p f fs. tab_missing a.line.now a.name.now f fs e.0 p)
+    (λ t p f fs. rw p.1 (tab_there a.line.now a.name.now f fs e.0 p.0))
+    (rw e.1 at c.strip_prefix-2.ensures.cases)

@@ -1,60 +1,57 @@
 -- `status_reader::values::decimal_value` meets its contract. Assumes nothing.
 use mathlib.Core.Path.{sym}
 use native.Mathlib.Omega.{arith}
-use borrow.Author.Rules.{rules}
 use Rattle.status_reader.proofs.ValueLaws.{no_digits, first_good, first_none, first_above, further_good, further_above, further_zero, further_none, decimal_end}
 use Rattle.status_reader.proofs.values.decimal_value.Goals as goal
 
-pub returns-then-n-eq0 : goal.returns-then-n-eq0
-returns-then-n-eq0 c = let a = c.args in sym (no_digits a.largest a.part.now (omega arith))
+pub returns-in_err-first : goal.returns-in_err-first
+returns-in_err-first c = let a = c.args in rw c.from_residual.ensures (sym (no_digits a.largest a.part.now c.in_err-first.ensures.cases))
 
-pub returns-then-first-ge10 : goal.returns-then-first-ge10
-returns-then-first-ge10 c =
-    let a = c.args in
-    sym (first_none a.largest a.part.now (omega arith) (rw c.digit-first.ensures at c.if-first-ge10.true))
+pub returns-in_err-value : goal.returns-in_err-value
+returns-in_err-value c =
+    let f = c.in_ok-first in
+    rw (c.from_residual-in_err-value.ensures, f.ensures.cases.0) (sym (first_none c.args.largest f.first.now f.further.now c.in_err-value.ensures))
 
-pub returns-then-largest-first : goal.returns-then-largest-first
-returns-then-largest-first c =
-    let a = c.args in
-    let d = c.digit-first.ensures in
-    sym (first_above a.largest a.part.now (omega arith) (rw d at c.if-first-ge10.false) (rw d at c.if-largest-first.true))
+pub returns-then-from-value : goal.returns-then-from-value
+returns-then-from-value c =
+    let f = c.in_ok-first in
+    let v = c.in_ok-value.ensures in
+    rw f.ensures.cases.0 (sym (first_above c.args.largest f.first.now f.further.now (omega (arith, v)) (omega (arith, v, c.from.ensures))))
 
-pub loop-k-init : goal.loop-k-init
-loop-k-init c =
-    let a = c.args in
-    let d = c.digit-first.ensures in
-    (rw d (first_good a.largest a.part.now (omega arith) (rw d at c.if-first-ge10.false) (rw d at c.if-largest-first.false)), omega arith)
+pub loop-b-init : goal.loop-b-init
+loop-b-init c =
+    let f = c.in_ok-first in
+    let v = c.in_ok-value.ensures in
+    (rw (f.ensures.cases.0, v.0) (first_good c.args.largest f.first.now f.further.now (omega (arith, v)) (omega (arith, v, c.from.ensures))), omega arith)
 
-pub returns-then-v-eq0 : goal.returns-then-v-eq0
-returns-then-v-eq0 c =
-    let l = c.loop-k in
-    let a = c.args in
-    rw l.invariant.0 (sym (further_zero a.largest l.v l.k a.part.now (omega arith) c.if-v-eq0.true))
+pub returns-then-value-eq0 : goal.returns-then-value-eq0
+returns-then-value-eq0 c =
+    let l = c.loop-b in
+    rw l.invariant.0 (sym (further_zero c.args.largest l.value l.b-index c.in_ok-first.further.now (omega arith) c.if-value-eq0.true))
 
-pub returns-then-d-ge10 : goal.returns-then-d-ge10
-returns-then-d-ge10 c =
-    let l = c.loop-k in
-    let a = c.args in
-    rw l.invariant.0 (sym (further_none a.largest l.v l.k a.part.now (omega arith) (rw c.digit-d.ensures at c.if-d-ge10.true)))
+pub returns-in_err-d : goal.returns-in_err-d
+returns-in_err-d c =
+    let l = c.loop-b in
+    rw (c.from_residual-in_err-d.ensures, l.invariant.0)
+    (sym (further_none c.args.largest l.value l.b-index c.in_ok-first.further.now (omega arith) c.in_err-d.ensures))
 
-pub returns-then-largest-w : goal.returns-then-largest-w
-returns-then-largest-w c =
-    let l = c.loop-k in
-    let a = c.args in
-    let d = c.digit-d.ensures in
-    rw l.invariant.0 (sym (further_above a.largest l.v l.k a.part.now (omega arith) (rw d at c.if-d-ge10.false) (rw d at c.if-largest-w.true)))
+pub returns-then-from-value-2 : goal.returns-then-from-value-2
+returns-then-from-value-2 c =
+    let l = c.loop-b in
+    let d = c.in_ok-d.ensures in
+    rw l.invariant.0
+    (sym (further_above c.args.largest l.value l.b-index c.in_ok-first.further.now (omega arith) (omega (arith, d)) (omega (arith, d, c.from-in-loop-b.ensures))))
 
-pub loop-k-preserved : goal.loop-k-preserved
-loop-k-preserved c =
-    let l = c.loop-k in
-    let a = c.args in
-    let d = c.digit-d.ensures in (
-      rw (l.invariant.0, d) (further_good a.largest l.v l.k a.part.now (omega arith) c.if-v-eq0.false (rw d at c.if-d-ge10.false) (rw d at c.if-largest-w.false)),
-      search rules,
+pub loop-b-preserved : goal.loop-b-preserved
+loop-b-preserved c =
+    let l = c.loop-b in
+    let d = c.in_ok-d.ensures in (
+      rw (l.invariant.0, d.0)
+          (further_good c.args.largest l.value l.b-index c.in_ok-first.further.now (omega arith) c.if-value-eq0.false (omega (arith, d)) (omega (arith, d, c.from-in-loop-b.ensures))),
+      omega arith,
     )
 
 pub returns : goal.returns
 returns c =
-    let l = c.loop-k in
-    let a = c.args in
-    rw l.invariant.0 (sym (decimal_end a.largest l.v l.k a.part.now (omega arith)))
+    let l = c.loop-b in
+    rw l.invariant.0 (sym (decimal_end c.args.largest l.value l.b-index c.in_ok-first.further.now (omega arith)))

@@ -11,31 +11,35 @@ use Rattle.status_reader.proofs.values.set_value.Goals as goal
 pub returns-then-part-ne-SET_DIGITS : goal.returns-then-part-ne-SET_DIGITS
 returns-then-part-ne-SET_DIGITS c = let t = c.args.part.now in sym (set_start t ∙ hex_length 16 0 t c.if-part-ne-SET_DIGITS.true)
 
-pub loop-k-init : goal.loop-k-init
-loop-k-init c = (set_start c.args.part.now, search rules, search rules)
+pub loop-b-init : goal.loop-b-init
+loop-b-init c = (c.if-part-ne-SET_DIGITS.false, set_start c.args.part.now, search rules)
 
-pub returns-then-d-ge16 : goal.returns-then-d-ge16
-returns-then-d-ge16 c =
+pub returns-in_err-d : goal.returns-in_err-d
+returns-in_err-d c =
     let t = c.args.part.now in
-    rw (c.loop-k.invariant.0, hex_step (16 - c.loop-k.k) (16 - (c.loop-k.k + 1)) c.loop-k.v c.loop-k.k t (omega arith) (omega arith), ← c.digit-d.ensures, le-ltb _ _ c.if-d-ge16.true)
+    let l = c.loop-b in
+    rw (c.from_residual.ensures, l.invariant.1, hex_step (16 - l.b-index) (16 - (l.b-index + 1)) l.value l.b-index t (omega arith) (omega arith), le-ltb _ _ c.in_err-d.ensures)
 
-pub overflow_mul-v : goal.overflow_mul-v
-overflow_mul-v c =
-    record { fits = omega (arith, hex_room c.loop-k.k c.loop-k.v (omega arith) c.loop-k.invariant.2) }
+pub overflow_mul-value : goal.overflow_mul-value
+overflow_mul-value c =
+    record { fits = omega (arith, hex_room c.loop-b.b-index c.loop-b.value (omega arith) c.loop-b.invariant.2) }
 
-pub overflow_add-v : goal.overflow_add-v
-overflow_add-v c =
-    record { fits = omega (arith, hex_room c.loop-k.k c.loop-k.v (omega arith) c.loop-k.invariant.2) }
+pub overflow_add-value : goal.overflow_add-value
+overflow_add-value c =
+    record { fits = omega (arith, c.in_ok-d.ensures, hex_room c.loop-b.b-index c.loop-b.value (omega arith) c.loop-b.invariant.2) }
 
-pub loop-k-preserved : goal.loop-k-preserved
-loop-k-preserved c =
-    let t = c.args.part.now in (
-      rw (c.loop-k.invariant.0, hex_step (16 - c.loop-k.k) (16 - (c.loop-k.k + 1)) c.loop-k.v c.loop-k.k t (omega arith) (omega arith), ← c.digit-d.ensures, lt-ltb _ _ c.if-d-ge16.false),
-      search rules,
-      hex_grows c.loop-k.k c.loop-k.v _ c.loop-k.invariant.2 c.if-d-ge16.false,
+pub loop-b-preserved : goal.loop-b-preserved
+loop-b-preserved c =
+    let t = c.args.part.now in
+    let l = c.loop-b in
+    let d = c.in_ok-d.ensures in (
+      c.if-part-ne-SET_DIGITS.false,
+      rw (l.invariant.1, hex_step (16 - l.b-index) (16 - (l.b-index + 1)) l.value l.b-index t (omega arith) (omega arith), ← d.0, lt-ltb _ _ d.1),
+      hex_grows l.b-index l.value _ l.invariant.2 d.1,
     )
 
 pub returns : goal.returns
 returns c =
     let t = c.args.part.now in
-    rw c.loop-k.invariant.0 (sym (hex_end (16 - c.loop-k.k) c.loop-k.v c.loop-k.k t (omega arith) (omega arith)))
+    let l = c.loop-b in
+    rw l.invariant.1 (sym (hex_end (16 - l.b-index) l.value l.b-index t (omega arith) (omega arith)))

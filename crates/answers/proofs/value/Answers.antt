@@ -1,7 +1,0 @@
--- `answers::value` meets its contract. Assumes nothing.
-use Rattle.answers.proofs.value.Goals as goal
-
-pub returns-in-Done : goal.returns-in-Done
-returns-in-Done c =
-    simp
-    c.in-Done.is

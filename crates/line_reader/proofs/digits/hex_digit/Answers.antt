@@ -1,6 +1,0 @@
--- `line_reader::digits::hex_digit` meets its contract. Assumes nothing.
-use Rattle.std.proofs.Common.{◌∙◌, lt-ltb}
-use Rattle.line_reader.proofs.digits.hex_digit.Goals as goal
-
-pub returns : goal.returns
-returns c = c.wide.ensures.0 ∙ rw (lt-ltb _ 256 c.ranges.b.fits)
