@@ -1,5 +1,5 @@
 -- What a line at a place comes to, and lines one after the other, for the callers: one law over the lines of a list of kinds. Assumes nothing.
-use Rattle.std.proofs.Common.{◌≡◌, ℕ, ◌+◌, ◌-◌, ◌%◌, ◌^◌, ◌<◌, ◌≤◌, List, [], ◌∷◌, ◌++◌, length, drop, Ok, Err, sym, refl, ap, ◌∙◌, add_assoc, mod-eq_of_lt, zero-add, arith, length-append, length-drop, drop-drop}
+use Rattle.std.proofs.Common.{◌≡◌, ℕ, ◌+◌, ◌-◌, ◌%◌, ◌^◌, ◌<◌, ◌≤◌, List, [], ◌∷◌, ◌++◌, length, drop, Ok, Err, Option, sym, refl, ap, ◌∙◌, add_assoc, mod-eq_of_lt, zero-add, arith, length-append, length-drop, drop-drop}
 use lib.Seq.{drop-append_seam}
 use Rattle.format.specs.Line.{Form, Kind, value_text, keyed_text, Read, read, fault_at, below, next, mapped, newline, read_value, after_key, read_line, read_lines}
 use Rattle.format.proofs.ReadWritten.{keyed_written}
@@ -9,7 +9,18 @@ use Rattle.hex_tables.proofs.Format.{by_the_tables}
 use Rattle.line_reader.specs.declared.Fault.{Fault}
 use Rattle.line_reader.specs.declared.Place.{Place}
 use Rattle.line_reader.specs.Positions.{from, Reading, valued, followed, place_read, keyed_at, lines_at, lines_by}
-use Rattle.line_reader.specs.Inside.{seen}
+use Rattle.line_reader.specs.Inside.{placed, line_at, onward, seen}
+
+-- ---- one line
+
+module _ {A : Type 0} (key : List ℕ) (value : List ℕ → Read A) (text : List ℕ) (p : Place) where
+  onward_read : (r : Read A) → onward p (placed text r) ≡ place_read text p r
+  onward_read (read v rest) = refl
+  onward_read (fault_at line) = refl
+
+  pub onward_line : (line : Option (A × ℕ)) → line ≡ line_at key value text p.at → onward p line ≡ keyed_at key value text p
+  unfolding line_at keyed_at
+  onward_line line e = ap (onward p) e ∙ onward_read (after_key key value (drop p.at text))
 
 -- ---- where the next line starts
 

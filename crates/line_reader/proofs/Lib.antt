@@ -1,4 +1,5 @@
+pub mod Keys
 pub mod LineLaws
+pub mod Pairs
 pub mod Answers
 pub mod Attributes
-pub mod Pairs

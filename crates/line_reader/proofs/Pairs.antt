@@ -1,52 +1,67 @@
--- Laws of bytes of two hex digits each, which a text begins with. Assumes nothing.
-use Rattle.std.proofs.Common.{◌≡◌, ℕ, zero, suc, ◌+◌, ◌*◌, false, cond, ◌&&◌, eqb, ltb, List, [], ◌∷◌, ◌++◌, length, refl, add-one, arith}
+-- Laws of an attribute's line at a position: bytes of two hex digits each. Assumes nothing.
+use Rattle.std.proofs.Common.{◌≡◌, ℕ, zero, suc, ◌+◌, ◌*◌, ◌<◌, ◌≤◌, false, cond, ◌&&◌, eqb, ltb, List, [], ◌∷◌, ◌++◌, length, None, get_or, drop, refl, add-one, arith, length-drop, drop_of_length-le, drop-cons}
 use Rattle.format.specs.Line.{read, fault, newline}
 use Rattle.format.specs.Step.{read_pairs}
 use Rattle.hex_tables.specs.Tables.{hex_digit_by, read_pairs_by}
+use Rattle.line_reader.specs.Inside.{line_at}
+use Rattle.line_reader.proofs.LineLaws.{key_short}
+
+-- ---- one pair of digits
 
 module _ (table : List ℕ) where
-  newline_first : (n : ℕ) (bs t : List ℕ) → read_pairs_by table n bs (newline ∷ t) ≡ read bs t
+  newline_read : (n : ℕ) (bs t : List ℕ) → read_pairs_by table n bs (newline ∷ t) ≡ read bs t
   unfolding read_pairs_by read_pairs
-  newline_first zero bs t = refl
-  newline_first (suc n) bs [] = refl
-  newline_first (suc n) bs (c ∷ t) = refl
+  newline_read zero bs t = refl
+  newline_read (suc n) bs [] = refl
+  newline_read (suc n) bs (c ∷ t) = refl
 
   no_digit_first : (n b : ℕ) (bs t : List ℕ) → eqb b newline ≡ false → ltb (hex_digit_by table b) 16 ≡ false → read_pairs_by table (suc n) bs (b ∷ t) ≡ fault
   unfolding read_pairs_by read_pairs
   no_digit_first n b bs [] e g = rw e
   no_digit_first n b bs (c ∷ t) e g = rw (e, g)
 
-  one_digit : (n b : ℕ) (bs t : List ℕ) → eqb b newline ≡ false → length t ≡ 0 → read_pairs_by table (suc n) bs (b ∷ t) ≡ fault
-  unfolding read_pairs_by read_pairs
-  one_digit n b bs [] e g = rw e
-  one_digit n b bs (c ∷ t) e g = absurd (omega arith)
-
-  module _ (n : ℕ) (bs rest : List ℕ) where
-    pub pairs_newline : (t : List ℕ) (b : ℕ) → rest ≡ b ∷ t → b ≡ newline → read_pairs_by table n bs rest ≡ read bs t
-    pairs_newline t b h e = rw (h, e) (newline_first n bs t)
+  module _ (i : ℕ) (text : List ℕ) (h : i < length text) where
+    pub pairs_newline : (n : ℕ) (bs : List ℕ) → get_or text i 0 ≡ newline → read_pairs_by table n bs (drop i text) ≡ read bs (drop (i + 1) text)
+    pairs_newline n bs e = rw (drop-cons text i 0 h, e, add-one i) (newline_read n bs (drop (suc i) text))
 
     -- there are as many bytes as there can be
-    pub pairs_full : (t : List ℕ) (b : ℕ) → rest ≡ b ∷ t → n ≡ 0 → eqb b newline ≡ false → read_pairs_by table n bs rest ≡ fault
+    pub pairs_full : (n : ℕ) (bs : List ℕ) → n ≡ 0 → eqb (get_or text i 0) newline ≡ false → read_pairs_by table n bs (drop i text) ≡ fault
     unfolding read_pairs_by read_pairs
-    pairs_full t b h e g = rw (e, h, g)
+    pairs_full n bs e g = rw (e, drop-cons text i 0 h, g)
 
-    pub pairs_no_digit : (t : List ℕ) (b m : ℕ) → rest ≡ b ∷ t → n ≡ m + 1 → eqb b newline ≡ false → ltb (hex_digit_by table b) 16 ≡ false
-        → read_pairs_by table n bs rest ≡ fault
-    pairs_no_digit t b m h e g k = rw (e, add-one m, h) (no_digit_first m b bs t g k)
+    pub pairs_no_digit : (n m : ℕ) (bs : List ℕ) → n ≡ m + 1 → eqb (get_or text i 0) newline ≡ false → ltb (hex_digit_by table (get_or text i 0)) 16 ≡ false
+        → read_pairs_by table n bs (drop i text) ≡ fault
+    pairs_no_digit n m bs e g k = rw (e, add-one m, drop-cons text i 0 h) (no_digit_first m (get_or text i 0) bs (drop (suc i) text) g k)
 
     -- the text ends after one digit
-    pub pairs_one : (t : List ℕ) (b m : ℕ) → rest ≡ b ∷ t → length t ≡ 0 → n ≡ m + 1 → eqb b newline ≡ false → read_pairs_by table n bs rest ≡ fault
-    pairs_one t b m h k e g = rw (e, add-one m, h) (one_digit m b bs t g k)
-
-    pub pairs_two : (more t : List ℕ) (b c m : ℕ) → rest ≡ b ∷ more → more ≡ c ∷ t → n ≡ m + 1 → eqb b newline ≡ false
-        → read_pairs_by table n bs rest
-        ≡ cond (ltb (hex_digit_by table b) 16 && ltb (hex_digit_by table c) 16)
-        (read_pairs_by table m (bs ++ ((hex_digit_by table b * 16 + hex_digit_by table c) ∷ [])) t) fault
+    pub pairs_one : (n m : ℕ) (bs : List ℕ) → n ≡ m + 1 → length text ≤ i + 1 → eqb (get_or text i 0) newline ≡ false → read_pairs_by table n bs (drop i text) ≡ fault
     unfolding read_pairs_by read_pairs
-    pairs_two more t b c m h k e g = rw (e, add-one m, h, k, g)
+    pairs_one n m bs e g k =
+        let p : drop (suc i) text ≡ [] = drop_of_length-le text {i = suc i} (omega (arith, g)) in
+        rw (e, add-one m, drop-cons text i 0 h, p, k)
 
-  pub pairs_end : (n : ℕ) (bs rest : List ℕ) → length rest ≡ 0 → read_pairs_by table n bs rest ≡ fault
+    pub pairs_two : (n m j : ℕ) (bs : List ℕ) → n ≡ m + 1 → j ≡ i + 1 → j < length text → eqb (get_or text i 0) newline ≡ false
+        → read_pairs_by table n bs (drop i text)
+        ≡ cond (ltb (hex_digit_by table (get_or text i 0)) 16 && ltb (hex_digit_by table (get_or text j 0)) 16)
+        (read_pairs_by table m (bs ++ ((hex_digit_by table (get_or text i 0) * 16 + hex_digit_by table (get_or text j 0)) ∷ [])) (drop (j + 1) text)) fault
+    unfolding read_pairs_by read_pairs
+    pairs_two n m j bs e f g k =
+        let q : suc i < length text = omega (arith, f, g) in
+        rw (e, add-one m, f, add-one i, drop-cons text i 0 h, drop-cons text (suc i) 0 q, add-one (suc i), k)
+
+  pub pairs_end : (i : ℕ) (text : List ℕ) → length text ≤ i → (n : ℕ) (bs : List ℕ) → read_pairs_by table n bs (drop i text) ≡ fault
   unfolding read_pairs_by read_pairs
-  pairs_end zero bs [] h = refl
-  pairs_end (suc n) bs [] h = refl
-  pairs_end n bs (b ∷ t) h = absurd (omega arith)
+  pairs_end i text h zero bs = rw (drop_of_length-le text h)
+  pairs_end i text h (suc n) bs = rw (drop_of_length-le text h)
+
+-- ---- the line
+
+no_pairs : (table u : List ℕ) → length u < 1 → read_pairs_by table 24 [] u ≡ fault
+unfolding read_pairs_by
+no_pairs table [] h = refl
+no_pairs table (b ∷ u) h = absurd (omega arith)
+
+-- too short for the key
+pub bytes_line_short : (table key text : List ℕ) (at : ℕ) → length text < at + length key → line_at key (read_pairs_by table 24 []) text at ≡ None
+unfolding line_at
+bytes_line_short table key text at h = rw (key_short 1 key (read_pairs_by table 24 []) (drop at text) (no_pairs table) (omega (arith, length-drop at text)))

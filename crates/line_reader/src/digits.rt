@@ -1,23 +1,30 @@
-// One digit: a hex digit by a table, a decimal one by its byte.
+// One digit: a hex digit by a table, a decimal one by tests.
 ghost use Rattle.std.specs.Prelude.{◌≡◌};
 ghost use Rattle.format.specs.Line.{decimal_digit};
 ghost use Rattle.hex_tables.specs.Tables.{hex_digit_by};
-ghost use Rattle.line_reader.specs.Inside.{digit_below};
 
-// The number of b as a hex digit by the table, if it is one.
-pub(crate) fn hex_digit(table: &[u8; 256], b: u8) -> Option<u64>
-    ensures { result ≡ digit_below 16 (hex_digit_by table.now b) }
+// The byte of `0`, and the first one past `9`.
+const ZERO: u8 = 48;
+
+const PAST_NINE: u8 = 58;
+
+// What b is as a hex digit by the table: above 15 it is none.
+pub(crate) fn hex_digit(table: &[u8; 256], b: u8) -> u64
+    ensures { result ≡ hex_digit_by table.now b }
 {
-    let digit = u64::from(table[usize::from(b)]);
-    if digit < 16 { Some(digit) } else { None }
+    let i = b as usize;
+    u64::from(table[i])
 }
 
-// The number of b as a decimal digit, if it is one.
-pub(crate) fn decimal_digit(b: u8) -> Option<u64>
-    ensures { result ≡ digit_below 10 (decimal_digit b) }
+// The number of b as a decimal digit, or 10 where it is none.
+pub(crate) fn decimal_digit(b: u8) -> u64
+    ensures { result ≡ decimal_digit b }
 {
-    match b {
-        b'0'..=b'9' => Some(u64::from(b - b'0')),
-        _ => None,
+    if b < ZERO {
+        return 10;
     }
+    if b < PAST_NINE {
+        return (b - ZERO) as u64;
+    }
+    10
 }

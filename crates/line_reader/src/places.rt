@@ -1,8 +1,8 @@
 // The line at a place: what it says and the place past it.
-ghost use Rattle.std.specs.Prelude.{◌≡◌, drop};
+ghost use Rattle.std.specs.Prelude.{◌≡◌, ℕ};
 ghost use Rattle.format.specs.Line.{decimal};
-ghost use Rattle.line_reader.specs.Positions.{number_at, hex_by, attribute_by, place_read, at_fault, past_line};
-ghost use Rattle.line_reader.specs.Inside.{told};
+ghost use Rattle.line_reader.specs.Positions.{number_at, hex_by, attribute_by, at_fault, past_line};
+ghost use Rattle.line_reader.specs.Inside.{onward};
 
 use crate::lines::{bytes_line, decimal_line, hex_line};
 use crate::{AttributeBytes, Fault, MOST_DIGITS, Place, Read};
@@ -19,14 +19,14 @@ pub fn read_hex<const N: usize>(
     if MOST_DIGITS < N {
         return Err(at_fault(place));
     }
-    onward(text, place, hex_line(rest(text, place), key, N, table))
+    onward(place, hex_line(text, place.at, key, N, table))
 }
 
 // The line of key and a decimal number up to largest at a place of text.
 pub fn read_decimal(text: &[u8], place: Place, key: &[u8], largest: u32) -> Read<u64>
     ensures { result ≡ number_at key.now (decimal largest) text.now place }
 {
-    onward(text, place, decimal_line(rest(text, place), key, largest))
+    onward(place, decimal_line(text, place.at, key, largest))
 }
 
 // The line of key and up to 24 bytes, two hex digits each by the table, at a place of text.
@@ -38,25 +38,15 @@ pub fn read_attribute(
 ) -> Read<AttributeBytes>
     ensures { result ≡ attribute_by table.now key.now text.now place }
 {
-    onward(text, place, bytes_line(rest(text, place), key, table))
+    onward(place, bytes_line(text, place.at, key, table))
 }
 
-// The text from a place on.
-fn rest(text: &[u8], place: Place) -> &[u8]
-    ensures { result.now ≡ drop place.at text.now }
-{
-    &text[place.at.min(text.len())..]
-}
-
-// What the line at place says, with the place past it in place of the text past it; or that there is no such line.
-fn onward<T>(text: &[u8], place: Place, line: Option<(T, &[u8])>) -> Read<T>
-    ensures { result ≡ place_read text.now place (told line.entry) }
+// What the line at place says, with the place past it in place of its position; or that there is no such line.
+fn onward<T>(place: Place, line: Option<(T, usize)>) -> Read<T>
+    ensures { result ≡ onward place line }
 {
     match line {
-        Some((value, rest)) => Ok((
-            value,
-            past_line(place, text.len().saturating_sub(rest.len())),
-        )),
+        Some((value, at)) => Ok((value, past_line(place, at))),
         None => Err(at_fault(place)),
     }
 }

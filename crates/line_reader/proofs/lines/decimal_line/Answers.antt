@@ -1,38 +1,36 @@
 -- `line_reader::lines::decimal_line` meets its contract. Assumes nothing.
-use Rattle.std.proofs.Common.{sym, ◌∙◌, arith, le-leb}
-use borrow.Author.Tests.{lt-leb}
+use Rattle.std.proofs.Common.{◌+◌, length, sym, ◌∙◌, arith, le-ltb, lt-ltb, le-leb}
 use Rattle.format.specs.Line.{read_decimal}
-use Rattle.line_reader.proofs.LineLaws.{key_missing, key_read, decimal_none, decimal_some, digit_read, digit_missing}
+use Rattle.line_reader.proofs.LineLaws.{decimal_line_short, decimal_step, line_there, line_missing}
+use borrow.Author.Tests.{lt-leb}
 use Rattle.line_reader.proofs.lines.decimal_line.Goals as goal
 
-pub returns-in_err-value : goal.returns-in_err-value
-returns-in_err-value c = rw c.from_residual.ensures (sym (key_missing _ _ _ c.in_err-value.ensures.cases))
-
-pub returns-in_err-first : goal.returns-in_err-first
-returns-in_err-first c =
+pub returns-then-len-size : goal.returns-then-len-size
+returns-then-len-size c =
     let a = c.args in
-    let key = c.in_ok-value.ensures.cases in
-    rw c.from_residual-in_err-first.ensures
-    (sym (key_read (read_decimal a.largest) a.key.now a.text.now _ key.0 key.1 ∙ decimal_none a.largest _ c.in_err-first.ensures.cases))
+    sym (decimal_line_short a.key.now a.largest a.text.now a.at (omega arith))
 
-pub returns-in_err-digit : goal.returns-in_err-digit
-returns-in_err-digit c =
+pub returns-then-len-size-2 : goal.returns-then-len-size-2
+returns-then-len-size-2 c =
     let a = c.args in
-    let key = c.in_ok-value.ensures.cases in
-    rw c.from_residual-in_err-digit.ensures
-    (sym (key_read (read_decimal a.largest) a.key.now a.text.now _ key.0 key.1 ∙ decimal_some a.largest _ _ _ c.in_ok-first.ensures.cases.0 ∙ rw (digit_missing _ _ c.in_err-digit.ensures)))
+    sym (decimal_line_short a.key.now a.largest a.text.now a.at (omega arith))
 
-pub returns-then-from-digit : goal.returns-then-from-digit
-returns-then-from-digit c =
+pub returns-then-d-ge10 : goal.returns-then-d-ge10
+returns-then-d-ge10 c =
     let a = c.args in
-    let key = c.in_ok-value.ensures.cases in
-    let d = digit_read _ _ _ c.in_ok-digit.ensures in
-    sym (key_read (read_decimal a.largest) a.key.now a.text.now _ key.0 key.1 ∙ decimal_some a.largest _ _ _ c.in_ok-first.ensures.cases.0 ∙ rw (d.0, ← d.1, lt-leb c.in_ok-digit.digit a.largest (omega (arith, c.from.ensures, c.if-from-digit.true))))
+    rw (line_there a.key.now (read_decimal a.largest) a.text.now a.at (sym c.starts_with.ensures ∙ c.if-starts_with.true), decimal_step a.largest (a.at + length a.key.now) a.text.now (omega arith), ← c.decimal_digit-d.ensures, le-ltb _ _ c.if-d-ge10.true)
+
+pub returns-then-largest-d : goal.returns-then-largest-d
+returns-then-largest-d c =
+    let a = c.args in
+    rw (line_there a.key.now (read_decimal a.largest) a.text.now a.at (sym c.starts_with.ensures ∙ c.if-starts_with.true), decimal_step a.largest (a.at + length a.key.now) a.text.now (omega arith), ← c.decimal_digit-d.ensures, lt-ltb _ _ c.if-d-ge10.false, lt-leb _ _ c.if-largest-d.true)
+
+pub returns-then-starts_with : goal.returns-then-starts_with
+returns-then-starts_with c =
+    let a = c.args in
+    rw (line_there a.key.now (read_decimal a.largest) a.text.now a.at (sym c.starts_with.ensures ∙ c.if-starts_with.true), decimal_step a.largest (a.at + length a.key.now) a.text.now (omega arith), ← c.decimal_digit-d.ensures, lt-ltb _ _ c.if-d-ge10.false, le-leb _ _ c.if-largest-d.false) c.digits_at.ensures
 
 pub returns : goal.returns
 returns c =
     let a = c.args in
-    let key = c.in_ok-value.ensures.cases in
-    let d = digit_read _ _ _ c.in_ok-digit.ensures in
-    c.more_digits.ensures
-    ∙ sym (key_read (read_decimal a.largest) a.key.now a.text.now _ key.0 key.1 ∙ decimal_some a.largest _ _ _ c.in_ok-first.ensures.cases.0 ∙ rw (d.0, ← d.1, le-leb c.in_ok-digit.digit a.largest (omega (arith, c.from.ensures, c.if-from-digit.false))))
+    sym (line_missing a.key.now (read_decimal a.largest) a.text.now a.at (sym c.starts_with.ensures ∙ c.if-starts_with.false))

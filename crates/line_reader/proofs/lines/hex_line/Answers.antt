@@ -1,40 +1,35 @@
 -- `line_reader::lines::hex_line` meets its contract. Assumes nothing.
-use Rattle.std.proofs.Common.{[], ◌∷◌, sym, ◌∙◌}
-use Rattle.format.specs.Line.{read}
+use Rattle.std.proofs.Common.{sym, ◌∙◌, arith, eq-eqb, ne_eqb}
 use Rattle.hex_tables.specs.Tables.{read_hex_by}
-use Rattle.line_reader.proofs.LineLaws.{key_missing, key_read, hex_short, hex_split}
+use Rattle.line_reader.proofs.LineLaws.{hex_line_short, hex_line_no, hex_line_is, hex_line_longer, line_missing}
 use Rattle.line_reader.proofs.lines.hex_line.Goals as goal
 
-pub returns-in_err-value : goal.returns-in_err-value
-returns-in_err-value c = rw c.from_residual.ensures (sym (key_missing _ _ _ c.in_err-value.ensures.cases))
-
-pub returns-in_err-digits : goal.returns-in_err-digits
-returns-in_err-digits c =
+pub returns-then-len-size : goal.returns-then-len-size
+returns-then-len-size c =
     let a = c.args in
-    let key = c.in_ok-value.ensures.cases in
-    rw c.from_residual-in_err-digits.ensures
-    (sym (key_read (read_hex_by a.table.now a.n 0) a.key.now a.text.now _ key.0 key.1 ∙ hex_short a.table.now a.n 0 _ c.in_err-digits.ensures.cases))
+    sym (hex_line_short a.table.now a.key.now a.n a.text.now a.at (omega arith))
 
-pub returns-in_err-number : goal.returns-in_err-number
-returns-in_err-number c =
+pub returns-then-len-size-2 : goal.returns-then-len-size-2
+returns-then-len-size-2 c =
     let a = c.args in
-    let key = c.in_ok-value.ensures.cases in
-    let cut = c.in_ok-digits.ensures.cases in
-    rw c.from_residual-in_err-number.ensures
-    (sym (key_read (read_hex_by a.table.now a.n 0) a.key.now a.text.now _ key.0 key.1 ∙ hex_split a.table.now a.n _ _ _ _ cut.0 cut.1 cut.2 cut.3 c.in_err-number.ensures))
+    sym (hex_line_short a.table.now a.key.now a.n a.text.now a.at (omega arith))
 
-pub returns-in_err-rest : goal.returns-in_err-rest
-returns-in_err-rest c =
+pub returns-in_err-v : goal.returns-in_err-v
+returns-in_err-v c =
     let a = c.args in
-    let key = c.in_ok-value.ensures.cases in
-    let cut = c.in_ok-digits.ensures.cases in
-    rw c.from_residual-in_err-rest.ensures
-    (sym (key_read (read_hex_by a.table.now a.n 0) a.key.now a.text.now _ key.0 key.1 ∙ hex_split a.table.now a.n _ _ _ _ cut.0 cut.1 cut.2 cut.3 c.in_ok-number.ensures ∙ key_missing (λ u. read c.in_ok-number.number u) (10 ∷ []) _ c.in_err-rest.ensures.cases))
+    c.from_residual.ensures ∙ sym (hex_line_no a.table.now a.key.now a.n a.text.now a.at (sym c.starts_with.ensures ∙ c.if-starts_with.true) (omega arith) (sym c.hex_at.ensures ∙ c.in_err-v.was))
 
-pub returns : goal.returns
-returns c =
+pub returns-then-text-q-eq-NEWLINE : goal.returns-then-text-q-eq-NEWLINE
+returns-then-text-q-eq-NEWLINE c =
     let a = c.args in
-    let key = c.in_ok-value.ensures.cases in
-    let cut = c.in_ok-digits.ensures.cases in
-    let end = c.in_ok-rest.ensures.cases in
-    sym (key_read (read_hex_by a.table.now a.n 0) a.key.now a.text.now _ key.0 key.1 ∙ hex_split a.table.now a.n _ _ _ _ cut.0 cut.1 cut.2 cut.3 c.in_ok-number.ensures ∙ key_read (λ u. read c.in_ok-number.number u) (10 ∷ []) _ _ end.0 end.1)
+    sym (hex_line_is a.table.now a.key.now a.n a.text.now a.at _ (sym c.starts_with.ensures ∙ c.if-starts_with.true) (omega arith) (sym c.hex_at.ensures ∙ c.in_ok-v.was) (eq-eqb _ _ c.if-text-q-eq-NEWLINE.true))
+
+pub returns-else-text-q-eq-NEWLINE : goal.returns-else-text-q-eq-NEWLINE
+returns-else-text-q-eq-NEWLINE c =
+    let a = c.args in
+    sym (hex_line_longer a.table.now a.key.now a.n a.text.now a.at _ (sym c.starts_with.ensures ∙ c.if-starts_with.true) (omega arith) (sym c.hex_at.ensures ∙ c.in_ok-v.was) (ne_eqb _ _ c.if-text-q-eq-NEWLINE.false))
+
+pub returns-else-starts_with : goal.returns-else-starts_with
+returns-else-starts_with c =
+    let a = c.args in
+    sym (line_missing a.key.now (read_hex_by a.table.now a.n 0) a.text.now a.at (sym c.starts_with.ensures ∙ c.if-starts_with.false))

@@ -1,8 +1,7 @@
 -- `line_reader::places::read_decimal` meets its contract. Assumes nothing.
 use Rattle.std.proofs.Common.{◌∙◌}
-use Rattle.line_reader.specs.Positions.{keyed_at}
+use Rattle.line_reader.proofs.Answers.{onward_line}
 use Rattle.line_reader.proofs.places.read_decimal.Goals as goal
 
 pub returns : goal.returns
-unfolding keyed_at
-returns c = c.onward.ensures ∙ rw (c.decimal_line.ensures, c.rest.ensures)
+returns c = c.onward.ensures ∙ onward_line _ _ _ _ _ c.decimal_line.ensures

@@ -1,8 +1,7 @@
 -- `line_reader::places::read_hex` meets its contract. Assumes nothing.
 use Rattle.std.proofs.Common.{◌∙◌, le-leb}
-use Rattle.line_reader.specs.Positions.{keyed_at}
+use Rattle.line_reader.proofs.Answers.{onward_line}
 use Rattle.line_reader.proofs.places.read_hex.Goals as goal
 
 pub returns : goal.returns
-unfolding keyed_at
-returns g c = rw (le-leb _ 16 c.if-this-gt-MOST_DIGITS.false) (c.onward.ensures ∙ rw (c.hex_line.ensures, c.rest.ensures))
+returns g c = rw (le-leb _ 16 c.if-this-gt-MOST_DIGITS.false) (c.onward.ensures ∙ onward_line _ _ _ _ _ c.hex_line.ensures)
