@@ -1,4 +1,4 @@
-// One digit: a hex digit by a table, a decimal one by tests.
+// One digit: a hex digit by a table, a decimal one by tests. A number that is too large stands for none: an Option a digit was slower (lines.rt).
 ghost use Rattle.std.specs.Prelude.{◌≡◌};
 ghost use Rattle.format.specs.Line.{decimal_digit};
 ghost use Rattle.hex_tables.specs.Tables.{hex_digit_by};

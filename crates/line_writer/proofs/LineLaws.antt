@@ -2,8 +2,8 @@
 use mathlib.Core.Path.{◌≡◌, refl, sym, ap, ◌∙◌}
 use mathlib.Core.Logic.{⊎_elim}
 use mathlib.Core.List.{List, [], ◌∷◌, ◌++◌}
-use Prim.Native.Nat.{ℕ, zero, suc, ◌+◌, ◌-◌, ◌*◌, ◌/◌, ◌%◌, ◌^◌, ◌<◌, ◌≤◌}
-use native.Mathlib.Nat.{pow-suc, add-zero, add-suc, suc-add, add_assoc}
+use Prim.Native.Nat.{ℕ, suc, ◌+◌, ◌-◌, ◌/◌, ◌%◌, ◌^◌, ◌<◌, ◌≤◌}
+use native.Mathlib.Nat.{add-zero, add-suc, suc-add, add_assoc}
 use native.Mathlib.Numerals.{add-one}
 use native.Mathlib.Omega.{arith}
 use borrow.Author.Tests.{le-leb}
@@ -13,10 +13,9 @@ use mathlib.Core.Bool.{Bool, true, false}
 use Rattle.std.proofs.Common.{append_assoc, drop-drop}
 use lib.Seq.{sets, sets-eq, set_comm, length-sets}
 use borrow.Rule.Slice.PartMut.{put_mid}
-use Rattle.std.proofs.Math.Nat.{one-le-pow}
 use Rattle.format.specs.Line.{bytes, Kind, digit, decimal_text, keyed_text}
 use Rattle.format.proofs.Decimals.{below_or_not, decimal_one, decimal_more}
-use Rattle.format.proofs.Lengths.{length_more, length_one, length_some, length_keyed}
+use Rattle.format.proofs.Lengths.{at_most, length_more, length_one, length_some, length_keyed}
 use Rattle.hex_tables.specs.Tables.{digit_by, hex_text_by, line_text_by, lines_text_by}
 use Rattle.hex_tables.proofs.Lengths.{length_hex_by}
 use Rattle.line_writer.specs.Positions.{fits, written, written_to}
@@ -56,16 +55,9 @@ module _ (table : List ℕ) where
 
 -- ---- decimal digits
 
--- how many a number has, by the powers of ten that it lies between
-pub length_between : (n v : ℕ) → 10 ^ n ≤ v → v < 10 * 10 ^ n → length (decimal_text v) ≡ n + 1
-length_between zero v g h = length_one v (omega (arith, h))
-length_between (suc n) v g h =
-    let low : 10 ^ n * 10 ≤ v = rw pow-suc at g in
-    let high : v < 10 * (10 ^ n * 10) = rw pow-suc at h in
-    let rest : length (decimal_text (v / 10)) ≡ n + 1 = length_between n (v / 10) (omega arith) (omega arith) in
-    let some : 1 ≤ 10 ^ n = one-le-pow n 10 (omega arith) in
-    let ten : 10 ≤ v = omega (arith, some, low) in
-    omega (arith, length_more v ten, rest)
+-- a number of 64 bits has at most 20 digits
+pub length_64 : (v : ℕ) → v < 2 ^ 64 → length (decimal_text v) ≤ 20
+length_64 v h = at_most 19 v (omega arith)
 
 pub put_decimal_digit : (v m : ℕ) (l : List ℕ) (i : ℕ) → 10 ≤ v → length (decimal_text v) ≡ m + 1
     → sets l i (decimal_text v) ≡ sets (set l (i + m) (digit (v % 10))) i (decimal_text (v / 10))
