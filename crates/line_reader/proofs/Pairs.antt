@@ -1,5 +1,5 @@
 -- Laws of an attribute's line at a position: bytes of two hex digits each. Assumes nothing.
-use Rattle.std.proofs.Common.{◌≡◌, ℕ, zero, suc, ◌+◌, ◌*◌, ◌<◌, ◌≤◌, false, cond, ◌&&◌, eqb, ltb, List, [], ◌∷◌, ◌++◌, length, None, get_or, drop, refl, add-one, arith, length-drop, drop_of_length-le, drop-cons}
+use Rattle.std.proofs.Common.{◌≡◌, ℕ, zero, suc, ◌+◌, ◌*◌, ◌<◌, ◌≤◌, false, cond, ◌&&◌, eqb, ltb, List, [], ◌∷◌, ◌++◌, length, None, get_or, drop, set, replicate, sym, refl, ap, ◌∙◌, add-one, arith, length-drop, drop_of_length-le, drop-cons, drop-drop}
 use Rattle.format.specs.Line.{read, fault, newline}
 use Rattle.format.specs.Step.{read_pairs}
 use Rattle.hex_tables.specs.Tables.{hex_digit_by, read_pairs_by}
@@ -53,6 +53,20 @@ module _ (table : List ℕ) where
   unfolding read_pairs_by read_pairs
   pairs_end i text h zero bs = rw (drop_of_length-le text h)
   pairs_end i text h (suc n) bs = rw (drop_of_length-le text h)
+
+-- ---- the array of bytes
+
+drop_set : (l : List ℕ) (n x : ℕ) → drop (suc n) (set l n x) ≡ drop (suc n) l
+drop_set [] n x = refl
+drop_set (y ∷ l) zero x = refl
+drop_set (y ∷ l) (suc n) x = drop_set l n x
+
+-- one byte more leaves one zero fewer
+pub zeros_left : (l : List ℕ) (n k m x : ℕ) → k ≡ m + 1 → drop n l ≡ replicate k 0 → drop (n + 1) (set l n x) ≡ replicate m 0
+zeros_left l n k m x e h =
+    let g : drop n l ≡ replicate (suc m) 0 = h ∙ rw (e, add-one m) in
+    let d : drop (suc n) l ≡ drop 1 (drop n l) = rw (← (add-one n)) (sym (drop-drop 1 n l)) in
+    rw (add-one n) (drop_set l n x ∙ d ∙ ap (drop 1) g)
 
 -- ---- the line
 

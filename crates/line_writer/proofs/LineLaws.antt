@@ -2,17 +2,15 @@
 use mathlib.Core.Path.{◌≡◌, refl, sym, ap, ◌∙◌}
 use mathlib.Core.Logic.{⊎_elim}
 use mathlib.Core.List.{List, [], ◌∷◌, ◌++◌}
-use Prim.Native.Nat.{ℕ, suc, ◌+◌, ◌-◌, ◌/◌, ◌%◌, ◌^◌, ◌<◌, ◌≤◌}
+use Prim.Native.Nat.{ℕ, suc, ◌+◌, ◌/◌, ◌%◌, ◌^◌, ◌<◌, ◌≤◌}
 use native.Mathlib.Nat.{add-zero, add-suc, suc-add, add_assoc}
 use native.Mathlib.Numerals.{add-one}
 use native.Mathlib.Omega.{arith}
 use borrow.Author.Tests.{le-leb}
-use lib.ListN.{length, set, take, drop, length-append}
+use lib.ListN.{length, get_or, set, drop, length-append, drop_of_length-le}
 use lib.Dec.{leb}
 use mathlib.Core.Bool.{Bool, true, false}
-use Rattle.std.proofs.Common.{append_assoc, drop-drop}
-use lib.Seq.{sets, sets-eq, set_comm, length-sets}
-use borrow.Rule.Slice.PartMut.{put_mid}
+use lib.Seq.{sets, set_comm, drop-cons, length-sets}
 use Rattle.format.specs.Line.{bytes, Kind, digit, decimal_text, keyed_text}
 use Rattle.format.proofs.Decimals.{below_or_not, decimal_one, decimal_more}
 use Rattle.format.proofs.Lengths.{at_most, length_more, length_one, length_some, length_keyed}
@@ -34,11 +32,12 @@ sets_last (x ∷ xs) y l i =
 
 -- ---- bytes
 
--- bytes copied over as many
-pub put_copied : (src l : List ℕ) (at : ℕ) → at + length src ≤ length l → put_mid at (at + length src - at) l src ≡ sets l at src
-put_copied src l at h =
-    let n : at + length src - at ≡ length src = omega arith in
-    rw (n, drop-drop (length src) at l) (sym (sets-eq src l at h ∙ append_assoc (take at l) src (drop (at + length src) l)))
+pub put_byte : (src l : List ℕ) (k i j : ℕ) → k < length src → j ≡ i + 1
+    → sets l i (drop k src) ≡ sets (set l i (get_or src k 0)) j (drop (k + 1) src)
+put_byte src l k i j h e = rw (drop-cons src k 0 h, e, add-one i, add-one k)
+
+pub put_no_byte : (src l : List ℕ) (k i : ℕ) → length src ≤ k → sets l i (drop k src) ≡ l
+put_no_byte src l k i h = rw (drop_of_length-le src h)
 
 -- ---- hex digits
 

@@ -20,9 +20,11 @@ fn put_bytes(buf: &mut [u8], at: usize, src: &[u8]) -> usize
     requires { at + length src.now ≤ length buf.old }
     ensures { (result ≡ at + length src.now) × (buf.new ≡ sets buf.old at src.now) }
 {
-    let end = at + src.len();
-    buf[at..end].copy_from_slice(src);
-    end
+    // (By element, and not by std's `copy_from_slice`: that calls the C library's `memmove`, and the archive for C leaves `memcpy` and `memset` open alone.)
+    for (k, b) in src.iter().enumerate() {
+        buf[at + k] = *b;
+    }
+    at + src.len()
 }
 
 // The last n hex digits of v, by the table, into buf at the position at.

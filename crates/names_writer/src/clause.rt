@@ -29,7 +29,8 @@ impl Flags {
     fn any(self) -> bool
         ensures { result ≡ self.effective || (self.inheritable || self.permitted) }
     {
-        self.effective || self.inheritable || self.permitted
+        // (`|`, and not `||`: one test and not three.)
+        self.effective | self.inheritable | self.permitted
     }
 
     #[tactic(auto, using(crate::proofs::Texts::flags_length))]

@@ -4,3 +4,4 @@ pub mod RunLaws
 pub mod SlotLaws
 pub mod SlotSteps
 pub mod StepLaws
+pub mod Values

@@ -49,9 +49,10 @@ fn write_result(buf: &mut [u8], at: usize, answer: StepAnswer, table: &[u8; 16])
     ensures { (result ≡ (lines_put table.now result_kinds (answer.code ∷ answer.value ∷ answer.cause ∷ []) buf.old at).at) × (buf.new ≡ (lines_put table.now result_kinds (answer.code ∷ answer.value ∷ answer.cause ∷ []) buf.old at).buffer) }
 {
     let code = u64::from(answer.code);
+    let value = u64::from(answer.value);
     let cause = u64::from(answer.cause);
     let p = write_decimal(buf, at, b"code=", code);
-    let q = write_hex(buf, p, b"value=", VALUE_DIGITS, answer.value, table);
+    let q = write_hex(buf, p, b"value=", VALUE_DIGITS, value, table);
     write_decimal(buf, q, b"cause=", cause)
 }
 

@@ -1,5 +1,5 @@
 // One step of a slot plan: its six lines read, and its turn taken.
-ghost use Rattle.std.specs.Prelude.{◌≡◌, ◌<◌};
+ghost use Rattle.std.specs.Prelude.{◌≡◌, ◌<◌, ◌≤◌};
 ghost use Rattle.slots.specs.Turn.{turn_of};
 ghost use Rattle.line_reader.specs.Positions.{valued};
 ghost use Rattle.plan.specs.Inside.{said, slot_said, slot_step_by, UsedValid, table_kind};
@@ -33,9 +33,9 @@ fn read_slot_step(text: &[u8], place: Place, table: &[u8; 256]) -> Read<SlotLine
     Ok((SlotLines { slot, step }, place))
 }
 
-// The turn of a step that was read, by the use marks and the credentials of its slot; it is stored in one of the 96.
+// The turn of a step that was read, by the use marks and the credentials of its slot; it is stored in one of the 96, and its value fits 32 bits.
 fn turn_of(lines: SlotLines, used: [bool; 96], held: Credentials) -> Turn
-    ensures { (result ≡ turn_of used lines.slot held (said lines.step)) × (result.to < 96) }
+    ensures { (result ≡ turn_of used lines.slot held (said lines.step)) × (result.to < 96) × (result.value ≤ 4294967295) }
 {
     let step = lines.step;
     slots::take_turn(
@@ -72,7 +72,7 @@ impl State for Threads {
         let given = StepAnswer {
             code: turn.code,
             cause: turn.cause,
-            value: turn.value,
+            value: turn.value as u32,
         };
         Ok((given, end))
     }

@@ -9,12 +9,12 @@ use credentials::Credentials;
 use line_reader::{Place, Read};
 
 // What a step answers, in numbers, as the report has them and the definitions of a step's result. The two bytes stand together, so that a list of
-// answers has as little padding as it can.
+// answers has as little padding as it can. What a call or a fork gives fits 32 bits: an ID, securebits, a flag or a slot.
 #[derive(Clone, Copy, Default)]
 pub(crate) struct StepAnswer {
     pub code: u8,
     pub cause: u8,
-    pub value: u64,
+    pub value: u32,
 }
 
 // The state that the steps of a kind of plan are taken in: credentials, or a table of threads. It stays in one place, which each step changes.

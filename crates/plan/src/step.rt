@@ -60,7 +60,7 @@ impl State for Credentials {
         let given = StepAnswer {
             code: answers::code(answer),
             cause: answers::cause(answer),
-            value: answers::value(answer),
+            value: answers::value(answer) as u32,
         };
         *self = answers::after(held, answer);
         Ok((given, end))

@@ -1,11 +1,11 @@
 -- `line_reader::lines::pairs_at` meets its contract. Assumes nothing.
 use Rattle.std.proofs.Common.{◌+◌, ◌-◌, take, Some, sym, refl, ap, add-one, arith, length-set, take-suc-set, rules, le-ltb, lt-ltb, ne_eqb}
-use Rattle.line_reader.proofs.Pairs.{pairs_newline, pairs_full, pairs_no_digit, pairs_one, pairs_two, pairs_end}
+use Rattle.line_reader.proofs.Pairs.{pairs_newline, pairs_full, pairs_no_digit, pairs_one, pairs_two, pairs_end, zeros_left}
 use Rattle.line_reader.proofs.LineLaws.{position}
 use Rattle.line_reader.proofs.lines.pairs_at.Goals as goal
 
 pub loop-i-init : goal.loop-i-init
-loop-i-init c = (refl, search rules, refl)
+loop-i-init c = (refl, search rules, refl, refl)
 
 pub returns-then-b-eq-NEWLINE : goal.returns-then-b-eq-NEWLINE
 returns-then-b-eq-NEWLINE c =
@@ -78,6 +78,7 @@ loop-i-preserved c =
           (rw (add-one l.n, take-suc-set l.bytes l.n _ (omega (arith, l.invariant.2, l.invariant.1, c.if-n-eq-MOST_ATTRIBUTE.false)))),
       omega arith,
       simp length-set l.invariant.2,
+      zeros_left l.bytes l.n (24 - l.n) (24 - (l.n + 1)) _ (omega (arith, l.invariant.1, c.if-n-eq-MOST_ATTRIBUTE.false)) l.invariant.3,
     )
 
 pub returns : goal.returns

@@ -6,5 +6,5 @@ use Rattle.plan.proofs.report.write_result.Goals as goal
 pub returns : goal.returns
 unfolding lines_put result_kinds
 returns c =
-    rw (← c.from-code.ensures, ← c.from-cause.ensures, ← c.write_decimal-p.ensures.0, ← c.write_decimal-p.ensures.1, ← c.write_hex-q.ensures.0, ← c.write_hex-q.ensures.1)
+    rw (← c.from-code.ensures, ← c.from-value.ensures, ← c.from-cause.ensures, ← c.write_decimal-p.ensures.0, ← c.write_decimal-p.ensures.1, ← c.write_hex-q.ensures.0, ← c.write_hex-q.ensures.1)
     c.write_decimal.ensures

@@ -10,7 +10,15 @@ use Rattle.format.specs.Step.{read_step}
 use Rattle.plan.specs.Inside.{said, thread_taken}
 use Rattle.plan.proofs.RunLaws.{below_mapped}
 use Rattle.plan.proofs.StepLaws.{step_read}
+use Rattle.plan.proofs.Values.{answer_small}
 use Rattle.plan.proofs.step.CredentialsState.take_step.Goals as goal
+
+-- what the call gives fits 32 bits
+pub overflow_cast-given : goal.overflow_cast-given
+overflow_cast-given c =
+    let step = c.in_ok-step.step in
+    let given = rw c.perform-answer.ensures at c.value.ensures in
+    omega (arith, given, answer_small c.args.self.now step.number step.a step.b step.c c.as_slice-attribute.result.now)
 
 pub returns-in_err-step : goal.returns-in_err-step
 returns-in_err-step c =
