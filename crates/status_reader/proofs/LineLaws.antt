@@ -2,7 +2,7 @@
 use mathlib.Core.Path.{◌≡◌, refl, sym, ap, ◌∙◌}
 use mathlib.Core.List.{List, [], ◌∷◌, ◌++◌, append-nil}
 use mathlib.Core.Bool.{Bool, true, false, cond, ◌&&◌, ◌||◌, false≢true, true≢false}
-use Prim.Native.Nat.{ℕ, suc, ◌+◌, ◌-◌, ◌<◌}
+use Prim.Native.Nat.{ℕ, suc, ◌+◌, ◌-◌, ◌<◌, ◌≤◌}
 use native.Mathlib.Nat.{zero-add}
 use native.Mathlib.Numerals.{add-one}
 use native.Mathlib.Omega.{arith}
@@ -13,7 +13,7 @@ use lib.ListN.{length, get_or, take, drop, length-append, length-drop, drop_of_l
 use lib.Seq.{drop-cons, take_all, take-append_seam, drop-append_seam}
 use Rattle.std.specs.Prelude.{Option, Some, None, MatchOption, position, slice_get}
 use Rattle.std.specs.Option.{unwrap_or}
-use Rattle.std.proofs.Common.{Bor}
+use Rattle.std.proofs.Common.{Bor, lt-ltb, le-ltb}
 use Rattle.std.specs.List.{position_or_len}
 use Rattle.std.specs.List as C
 use Rattle.std.proofs.lemmas.List.Recursion.{is_position_or_len}
@@ -72,6 +72,23 @@ module _ (s n : ℕ) (t : List ℕ) (e : n ≡ length (up_to s t)) where
   one_left h =
       let cons : since s t ≡ get_or t n 0 ∷ drop (suc n) t = sym since_part ∙ drop-cons t n 0 h in
       cons ∙ rw (first_of s t (get_or t n 0) (drop (suc n) t) cons, add-one n)
+
+-- from a position on: none stands before it where it stands there, else one more than from the next
+module _ (s i : ℕ) (t : List ℕ) where
+  pub found_here : i < length t → get_or t i 0 ≡ s → length (up_to s (drop i t)) ≡ 0
+  unfolding up_to
+  found_here h e = rw (drop-cons t i 0 h, eq-eqb _ _ e)
+
+  pub found_further : i < length t → (get_or t i 0 ≡ s → ⊥) → length (up_to s (drop i t)) ≡ suc (length (up_to s (drop (i + 1) t)))
+  unfolding up_to
+  found_further h e = rw (drop-cons t i 0 h, ne_eqb _ _ e, add-one i)
+
+  -- its position
+  pub position_here : length (up_to s t) ≡ i → i < length t → position (λ x. eqb x s) t ≡ Some i
+  position_here e h = rw (sym (up_to_length s t) ∙ e, lt-ltb i (length t) h)
+
+pub position_nowhere : (s : ℕ) (t : List ℕ) → length t ≤ length (up_to s t) → position (λ x. eqb x s) t ≡ None
+position_nowhere s t h = rw (sym (up_to_length s t), le-ltb (length (up_to s t)) (length t) h)
 
 -- by its position
 pub at_first : (s : ℕ) (t : List ℕ)

