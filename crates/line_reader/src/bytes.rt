@@ -22,10 +22,10 @@ impl Model for AttributeBytes {
 
     ghost inverse = { λ l. record { bytes = l ++ replicate (24 - length l) 0; size = length l } };
 
-    ghost inverse_ok = { λ a h i. record {
-      bytes = (ap (λ n. take a.size a.bytes ++ replicate (24 - n) 0) (length-take-le a.size a.bytes (subst (λ n. a.size ≤ n) (sym h.1) h.0)) ∙ ap (λ r. take a.size a.bytes ++ r) (sym h.2) ∙ take-append-drop a.size a.bytes) i;
-      size = length-take-le a.size a.bytes (subst (λ n. a.size ≤ n) (sym h.1) h.0) i;
-    } };
+    ghost inverse_ok = { λ a h.
+        let size = length-take-le a.size a.bytes (subst (λ n. a.size ≤ n) (sym h.1) h.0) in
+        let zeros = ap (λ n. take a.size a.bytes ++ replicate (24 - n) 0) size ∙ ap (λ r. take a.size a.bytes ++ r) (sym h.2) in
+        λ i. record { bytes = (zeros ∙ take-append-drop a.size a.bytes) i; size = size i } };
 }
 
 impl AttributeBytes {

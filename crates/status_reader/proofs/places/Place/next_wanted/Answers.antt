@@ -15,7 +15,8 @@ pub loop-line-preserved : goal.loop-line-preserved
 loop-line-preserved c =
     let l = c.loop-line in
     let s = c.in-Some in
-    (λ es. l.invariant.0 es ∙ passed_over l.rest.now l.passed s.line.now s.behind.now s.ensures.0 (sym c.if-is_wanted.ensures) es, omega (arith, l.invariant.1, s.ensures.1))
+    let over = passed_over l.rest.now l.passed s.line.now s.behind.now s.ensures.0 (sym c.if-is_wanted.ensures) in
+    (λ es. l.invariant.0 es ∙ over es, omega (arith, l.invariant.1, s.ensures.1))
 
 pub returns : goal.returns
 returns c =
